@@ -1,0 +1,4 @@
+pub mod Test
+pub mod Share
+pub mod Size
+pub mod Outcome
