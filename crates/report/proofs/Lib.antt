@@ -1,1 +1,4 @@
 pub mod Packing
+pub mod Each
+pub mod Sizes
+pub mod Report
