@@ -1,0 +1,5 @@
+pub mod Points
+pub mod Stations
+pub mod Parse
+pub mod Shares
+pub mod Case
