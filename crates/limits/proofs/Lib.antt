@@ -1,3 +1,4 @@
 pub mod Tests
 pub mod Shares
 pub mod Cases
+pub mod Sizes
