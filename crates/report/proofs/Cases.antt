@@ -10,6 +10,7 @@ use borrow.Author.Tests.{ltb-true}
 use Rattle.limits.specs.Test.{_&_}
 use Rattle.limits.proofs.Tests.{both}
 use Rattle.limits.specs.Size.{Kind, pointTypes, listed, octetsIn, pointOctets, standardLimit}
+use Rattle.asdu.specs.Header.{header, object, asdu}
 use Rattle.model.specs.declared.Point.{Point}
 use Rattle.report.specs.Packing.{selected, joined, chunks, cut}
 use Rattle.report.specs.Selection.{interrogationTypes, counterTypes, Above, Ascending}
@@ -63,10 +64,10 @@ shape ps = map (λ a. length (a .objects) ∷ length (octetsOf 20 7 a) ∷ []) (
 
 -- g. 60 points of type 1: one ASDU of 246 octets; 61: 60 and 1
 pub case-g : (shape (many 1 1 60) ≡ (60 ∷ 246 ∷ []) ∷ []) × (shape (many 1 1 61) ≡ (60 ∷ 246 ∷ []) ∷ (1 ∷ 10 ∷ []) ∷ [])
-unfolding interrogationTypes asdus octetsOf joined pieces chunks cut selected pointOctets octetsIn pointTypes objectOf
+unfolding interrogationTypes asdus octetsOf joined pieces chunks cut selected pointOctets octetsIn pointTypes objectOf object asdu header
 case-g = (refl, refl)
 
 -- h. 27 points of type 17: one ASDU of 249 octets; 28: 27 and 1
 pub case-h : (shape (many 17 1 27) ≡ (27 ∷ 249 ∷ []) ∷ []) × (shape (many 17 1 28) ≡ (27 ∷ 249 ∷ []) ∷ (1 ∷ 15 ∷ []) ∷ [])
-unfolding interrogationTypes asdus octetsOf joined pieces chunks cut selected pointOctets octetsIn pointTypes objectOf
+unfolding interrogationTypes asdus octetsOf joined pieces chunks cut selected pointOctets octetsIn pointTypes objectOf object asdu header
 case-h = (refl, refl)

@@ -153,11 +153,12 @@ climbing-selected test (p ∷ ps) c = go (test p) (climbing-selected test ps (c 
 order-join : (k : ℕ) (xs ys : List Point) → Each (λ p. p .kind ≡ k) xs → Climbing xs → Each (λ q. k < q .kind) ys → InOrder ys → InOrder (xs ++ ys)
 unfolding Each Climbing InOrder
 order-join k [] ys e c g o = o
-order-join k (x ∷ xs) ys e c g o =
-    (each-append (Before x) xs ys
+order-join k (x ∷ xs) ys e c g o = (
+  each-append (Before x) xs ys
       (each-so (λ q. (x .ioa < q .ioa) × (q .kind ≡ k)) (Before x) (λ q h. inr (e .0 ∙ sym (h .1), h .0)) xs (each-both (λ q. x .ioa < q .ioa) (λ q. q .kind ≡ k) xs (c .0) (e .1)))
       (each-so (λ q. k < q .kind) (Before x) (λ q h. let a : x .kind ≡ k = e .0 in inl (omega arith)) ys g),
-     order-join k xs ys (e .1) (c .1) g o)
+  order-join k xs ys (e .1) (c .1) g o,
+)
 
 -- what is in a set that lies above a type is above it
 among-above : (low : ℕ) (ks : List ℕ) → Above low ks → (kind : ℕ) → among ks kind ≡ true → low < kind
@@ -226,6 +227,6 @@ each-once test types a before after p c e m =
     ordered-counted (λ q. eqb (q .ioa) (p .ioa)) types a (selected test (before ++ (p ∷ after)))
     ∙ ap length (selected-selected (λ q. among types (q .kind) & eqb (q .ioa) (p .ioa)) test (before ++ (p ∷ after)))
     ∙ alone (λ q. test q & (among types (q .kind) & eqb (q .ioa) (p .ioa))) p
-      (join e (join m (eq-eqb (p .ioa) (p .ioa) refl)))
-      (λ q h. eqb-true (q .ioa) (p .ioa) (both _ _ (both _ _ h .1) .1))
-      before after c
+    (join e (join m (eq-eqb (p .ioa) (p .ioa) refl)))
+    (λ q h. eqb-true (q .ioa) (p .ioa) (both _ _ (both _ _ h .1) .1))
+    before after c

@@ -11,12 +11,15 @@ use lib.Dec.{eqb}
 use borrow.Author.Tests.{eqb-true}
 use Rattle.limits.specs.Test.{total}
 use Rattle.limits.specs.Size.{pointOctets, mostObjects, asdusOf, runOctets}
+use Rattle.limits.proofs.Sizes.{point-at-most, one-fits, asdu-fits}
+use Rattle.asdu.specs.Header.{object, asdu}
+use Rattle.asdu.proofs.Laws.{length-asdu}
+use Rattle.asdu.proofs.Laws.{length-object as length-any}
 use Rattle.model.specs.declared.Point.{Point}
 use Rattle.report.specs.Packing.{selected, joined, flat, chunks, Full, Each}
-use Rattle.report.specs.Report.{Piece, header, objectOf, ofKind, ordered, octetsOf, pieces, run, asdus, report}
+use Rattle.report.specs.Report.{Piece, dataHeader, objectOf, ofKind, ordered, octetsOf, pieces, run, asdus, report}
 use Rattle.report.proofs.Packing.{joined-map, joined-joined, joined-same, map-joined, length-joined, chunks-flat, chunks-full, chunks-count}
 use Rattle.report.proofs.Each.{each-chunks, each-both, each-so, each-then, each-joined, each-selected, selected-pass, full-each, length-flat, total-more, total-same}
-use Rattle.report.proofs.Sizes.{point-at-most, one-fits, asdu-fits}
 
 -- A point's value has twelve octets.
 abbrev pub Whole : Point → Type 0
@@ -29,8 +32,10 @@ Sized kind x = length x ≡ 3 + pointOctets kind
 pub length-object : (p : Point) → Whole p → Sized (p .kind) (objectOf p)
 unfolding objectOf
 length-object p w =
+    let l : length (object (p .ioa) (take (pointOctets (p .kind)) (p .value))) ≡ 3 + length (take (pointOctets (p .kind)) (p .value)) =
+    length-any (p .ioa) (take (pointOctets (p .kind)) (p .value)) in
     let t : length (take (pointOctets (p .kind)) (p .value)) ≡ pointOctets (p .kind) =
-      length-take-le (pointOctets (p .kind)) (p .value) (omega (arith, point-at-most (p .kind))) in
+    length-take-le (pointOctets (p .kind)) (p .value) (omega (arith, point-at-most (p .kind))) in
     omega arith
 
 -- the objects of the points of a type
@@ -44,7 +49,7 @@ kind-sized kind ps w =
 
 pub length-octets : (cause ca : ℕ) (a : Piece) → length (octetsOf cause ca a) ≡ 6 + length (flat (a .objects))
 unfolding octetsOf
-length-octets cause ca a = omega arith
+length-octets cause ca a = length-asdu (dataHeader (a .kind) (length (a .objects)) cause ca) (flat (a .objects))
 
 module _ (limit : ℕ) (high : 25 ≤ limit) where
   -- at least one object of every type fits
@@ -120,7 +125,7 @@ module _ (limit : ℕ) (high : 25 ≤ limit) where
       fits c h =
           let l : length (flat c) ≡ length c * (3 + pointOctets kind) = length-flat (3 + pointOctets kind) c (h .1) in
           let o : length (octetsOf cause ca (record { kind = kind; objects = c })) ≡ 6 + length (flat c) =
-            length-octets cause ca (record { kind = kind; objects = c }) in
+          length-octets cause ca (record { kind = kind; objects = c }) in
           let f : 6 + length c * (3 + pointOctets kind) ≤ limit - 4 = asdu-fits limit (pointOctets kind) (length c) (omega arith) (h .0 .1) in
           record { own = refl; some = h .0 .0; most = h .0 .1; short = omega arith }
 
@@ -132,14 +137,14 @@ module _ (limit : ℕ) (high : 25 ≤ limit) where
       let most : ℕ = mostObjects limit (pointOctets kind) in
       let cs : List (List (List ℕ)) = chunks most xs in
       let j : length (joined (octetsOf cause ca) (map (λ (c : List (List ℕ)). record { kind = kind; objects = c }) cs)) ≡ total (λ (c : List (List ℕ)). 6 + length (flat c)) cs =
-        ap length (joined-map (octetsOf cause ca) (λ (c : List (List ℕ)). record { kind = kind; objects = c }) cs)
-        ∙ length-joined (λ (c : List (List ℕ)). octetsOf cause ca (record { kind = kind; objects = c })) cs
-        ∙ total-same (λ (c : List (List ℕ)). length (octetsOf cause ca (record { kind = kind; objects = c }))) (λ (c : List (List ℕ)). 6 + length (flat c)) (λ c. length-octets cause ca (record { kind = kind; objects = c })) cs in
+      ap length (joined-map (octetsOf cause ca) (λ (c : List (List ℕ)). record { kind = kind; objects = c }) cs)
+      ∙ length-joined (λ (c : List (List ℕ)). octetsOf cause ca (record { kind = kind; objects = c })) cs
+      ∙ total-same (λ (c : List (List ℕ)). length (octetsOf cause ca (record { kind = kind; objects = c }))) (λ (c : List (List ℕ)). 6 + length (flat c)) (λ c. length-octets cause ca (record { kind = kind; objects = c })) cs in
       let t : total (λ (c : List (List ℕ)). 6 + length (flat c)) cs ≡ 6 * length cs + total (λ (c : List (List ℕ)). length (flat c)) cs =
-        total-more 6 (λ (c : List (List ℕ)). length (flat c)) cs in
+      total-more 6 (λ (c : List (List ℕ)). length (flat c)) cs in
       let n : length cs ≡ asdusOf most (length xs) = chunks-count most (one-object kind) xs in
       let f : total (λ (c : List (List ℕ)). length (flat c)) cs ≡ length (flat xs) =
-        sym (length-joined (λ (c : List (List ℕ)). flat c) cs) ∙ ap length (sym (joined-joined (λ (x : List ℕ). x) (λ (c : List (List ℕ)). c) cs) ∙ ap flat (chunks-flat most (one-object kind) xs)) in
+      sym (length-joined (λ (c : List (List ℕ)). flat c) cs) ∙ ap length (sym (joined-joined (λ (x : List ℕ). x) (λ (c : List (List ℕ)). c) cs) ∙ ap flat (chunks-flat most (one-object kind) xs)) in
       let l : length (flat xs) ≡ length xs * (3 + pointOctets kind) = length-flat (3 + pointOctets kind) xs w in
       j ∙ t ∙ ap₂ (λ (x y : ℕ). 6 * x + y) n (f ∙ l)
 
@@ -150,8 +155,8 @@ module _ (limit : ℕ) (high : 25 ≤ limit) where
       ap length (report-runs types cause ca ps)
       ∙ length-joined (λ (kind : ℕ). run limit cause ca kind (map objectOf (ofKind kind ps))) types
       ∙ total-same _ (λ (kind : ℕ). runOctets limit (pointOctets kind) (length (ofKind kind ps)))
-        (λ kind. length-run cause ca kind (map objectOf (ofKind kind ps)) (kind-sized kind ps w)
-          ∙ ap (runOctets limit (pointOctets kind)) (length-map (ofKind kind ps) objectOf)) types
+      (λ kind. length-run cause ca kind (map objectOf (ofKind kind ps)) (kind-sized kind ps w)
+      ∙ ap (runOctets limit (pointOctets kind)) (length-map (ofKind kind ps) objectOf)) types
 
   -- NO ASDU of a report is empty or longer than the limit less four octets
   pub report-fits : (types : List ℕ) (cause ca : ℕ) (ps : List Point) → Each Whole ps
@@ -160,7 +165,7 @@ module _ (limit : ℕ) (high : 25 ≤ limit) where
   report-fits types cause ca ps w =
       each-joined (λ a. (0 < length (a .objects)) × (length (octetsOf cause ca a) ≤ limit - 4)) (λ (kind : ℕ). pieces limit kind (map objectOf (ofKind kind ps)))
       (λ kind.
-        each-so (Fits cause ca kind) (λ a. (0 < length (a .objects)) × (length (octetsOf cause ca a) ≤ limit - 4)) (λ a f. (f .some, f .short))
-        (pieces limit kind (map objectOf (ofKind kind ps)))
-        (run-fits cause ca kind (map objectOf (ofKind kind ps)) (kind-sized kind ps w)))
+      each-so (Fits cause ca kind) (λ a. (0 < length (a .objects)) × (length (octetsOf cause ca a) ≤ limit - 4)) (λ a f. (f .some, f .short))
+      (pieces limit kind (map objectOf (ofKind kind ps)))
+      (run-fits cause ca kind (map objectOf (ofKind kind ps)) (kind-sized kind ps w)))
       types

@@ -2,17 +2,18 @@
 -- Document 01, 'Octets of an ASDU' and 'What each command says'; IEC 60870-5-101, 7.1 and 7.2 (data unit identifier, information object address).
 use Prim.Native.Nat.{ℕ}
 use mathlib.Core.List.{List, [], _∷_, _++_, map}
-use mathlib.Core.Bool.{Bool}
+use mathlib.Core.Bool.{Bool, false}
 use lib.ListN.{length, take}
 use lib.Dec.{eqb}
 use Rattle.limits.specs.Size.{pointOctets, mostObjects}
-use Rattle.octets.specs.Number.{pair, triple}
+use Rattle.asdu.specs.declared.header.Header.{Header}
+use Rattle.asdu.specs.Header.{object, asdu}
 use Rattle.model.specs.declared.Point.{Point}
 use Rattle.report.specs.Packing.{selected, joined, flat, chunks}
 
--- An object: its address, three octets, low first, and the octets of its element.
+-- A point's object: its address, and the octets of its element.
 unfoldable pub objectOf : Point → List ℕ
-objectOf p = triple (p .ioa) ++ take (pointOctets (p .kind)) (p .value)
+objectOf p = object (p .ioa) (take (pointOctets (p .kind)) (p .value))
 
 -- The points of a type, in their order.
 abbrev pub ofKind : ℕ → List Point → List Point
@@ -22,9 +23,10 @@ ofKind kind ps = selected (λ p. eqb (p .kind) kind) ps
 unfoldable pub ordered : List ℕ → List Point → List Point
 ordered types ps = joined (λ kind. ofKind kind ps) types
 
--- The six octets before data: type, number of objects (the sequence flag is clear), cause (negative and test are clear), originator 0, CA.
-abbrev pub header : ℕ → ℕ → ℕ → ℕ → List ℕ
-header kind count cause ca = kind ∷ count ∷ cause ∷ 0 ∷ pair ca
+-- The header of data: negative and test are clear, the originator is 0.
+abbrev pub dataHeader : ℕ → ℕ → ℕ → ℕ → Header
+dataHeader kind count cause ca =
+    record { kind = kind; count = count; cause = cause; negative = false; test = false; originator = 0; ca = ca }
 
 -- An ASDU of data, before it has a cause and a CA: its type and its objects.
 pub record Piece : Type 0 where
@@ -33,7 +35,7 @@ pub record Piece : Type 0 where
 
 -- The octets of an ASDU of data.
 unfoldable pub octetsOf : ℕ → ℕ → Piece → List ℕ
-octetsOf cause ca a = header (a .kind) (length (a .objects)) cause ca ++ flat (a .objects)
+octetsOf cause ca a = asdu (dataHeader (a .kind) (length (a .objects)) cause ca) (flat (a .objects))
 
 -- The ASDUs that the objects of one type fill under the length limit.
 unfoldable pub pieces : ℕ → ℕ → List (List ℕ) → List Piece

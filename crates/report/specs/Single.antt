@@ -5,9 +5,11 @@ use mathlib.Core.List.{List, [], _∷_, _++_}
 use lib.ListN.{length}
 use lib.Dec.{eqb}
 use Rattle.limits.specs.Test.{pick}
+use Rattle.asdu.specs.Cause.{spontaneous, initiated, request}
+use Rattle.asdu.specs.Header.{object, asdu}
 use Rattle.model.specs.declared.Point.{Point}
 use Rattle.table.specs.Table.{Station, held}
-use Rattle.report.specs.Report.{header, objectOf, octetsOf}
+use Rattle.report.specs.Report.{dataHeader, objectOf, octetsOf}
 
 -- One point in an ASDU of its own.
 unfoldable pub single : ℕ → ℕ → Point → List ℕ
@@ -15,15 +17,15 @@ single cause ca p = octetsOf cause ca (record { kind = p .kind; objects = object
 
 -- A value told because it changed: cause 3.
 abbrev pub spontaneousAsdu : ℕ → Point → List ℕ
-spontaneousAsdu ca p = single 3 ca p
+spontaneousAsdu ca p = single spontaneous ca p
 
 -- A value told because it was read: cause 5.
 abbrev pub requestedAsdu : ℕ → Point → List ℕ
-requestedAsdu ca p = single 5 ca p
+requestedAsdu ca p = single request ca p
 
 -- End of initialisation: type 70, cause 4, IOA 0, octet 0.
 unfoldable pub endOfInitializationAsdu : ℕ → List ℕ
-endOfInitializationAsdu ca = header 70 1 4 ca ++ (0 ∷ 0 ∷ 0 ∷ 0 ∷ [])
+endOfInitializationAsdu ca = asdu (dataHeader 70 1 initiated ca) (object 0 (0 ∷ []))
 
 -- The smallest CA with a point, or 0: stations stand in ascending order.
 unfoldable pub stationCommonAddress : List Station → ℕ
