@@ -1,6 +1,6 @@
 -- The image of a table, cut at one of its stations: what lies before the station's places and its eight octets, and what after.
 -- A change of that station alone changes these two pieces, the unused places and the number of points. Assumes nothing.
-use mathlib.Core.Path.{_≡_, refl, sym, ap, ap₂, _∙_}
+use mathlib.Core.Path.{_≡_, refl, sym, ap, _∙_}
 use mathlib.Core.List.{List, [], _∷_, _++_, append-assoc}
 use Prim.Native.Nat.{ℕ, suc, _+_, _*_, _-_, _/_, _%_}
 use native.Mathlib.Omega.{arith}
@@ -10,7 +10,7 @@ use Rattle.octets.specs.Over.{over}
 use Rattle.octets.specs.Number.{pair}
 use Rattle.model.specs.declared.Point.{Point}
 use Rattle.model.specs.Place.{placeOf}
-use Rattle.table.specs.Table.{Station, Table, held, placesOf, bodies, eight, entries, head, image}
+use Rattle.table.specs.Table.{Station, held, placesOf, bodies, eight, entries, head, image}
 
 -- A station's first six octets, which no point changes.
 unfoldable pub six : ℕ → ℕ → ℕ → List ℕ

@@ -1,7 +1,7 @@
 -- All points taken out: the memory after it is the image of the emptied table, which is good. Assumes nothing.
-use mathlib.Core.Path.{_≡_, refl, sym, ap, ap₂, _∙_}
+use mathlib.Core.Path.{_≡_, refl, sym, ap, _∙_}
 use mathlib.Core.List.{List, [], _∷_, _++_, map, append-assoc}
-use Prim.Native.Nat.{ℕ, zero, suc, _+_, _*_, _-_, _/_, _%_, _≤_, _<_}
+use Prim.Native.Nat.{ℕ, zero, suc, _+_, _*_, _-_, _≤_, _<_}
 use native.Mathlib.Omega.{arith}
 use lib.ListN.{length, replicate, length-append, length-replicate, replicate-append-replicate}
 use Rattle.limits.specs.Test.{total}
@@ -9,7 +9,7 @@ use Rattle.octets.specs.Over.{over}
 use Rattle.octets.specs.Number.{two, pair}
 use Rattle.octets.proofs.Laws.{over-at}
 use Rattle.model.specs.declared.Point.{Point}
-use Rattle.table.specs.Table.{Station, Table, held, placesOf, bodies, eight, entries, head, image}
+use Rattle.table.specs.Table.{Station, Table, held, placesOf, bodies, entries, head, image}
 use Rattle.table.specs.Change.{withPoints, emptied}
 use Rattle.table.proofs.Stations.{length-bodies}
 use Rattle.table.proofs.Parse.{Good, Laid, laid}

@@ -1,13 +1,13 @@
 -- One point taken out: the memory after it is the image of the table without the point. Assumes nothing.
-use mathlib.Core.Path.{_≡_, refl, sym, ap, ap₂, _∙_}
+use mathlib.Core.Path.{_≡_, refl, sym, ap, _∙_}
 use mathlib.Core.List.{List, [], _∷_, _++_, map, append-assoc}
 use mathlib.Core.Bool.{Bool, true, false}
-use Prim.Native.Nat.{ℕ, zero, suc, _+_, _*_, _-_, _/_, _%_, _≤_, _<_}
+use Prim.Native.Nat.{ℕ, suc, _+_, _*_, _-_, _≤_, _<_}
 use native.Mathlib.Omega.{arith}
 use lib.ListN.{length, replicate, length-append, length-replicate, replicate-append-replicate}
-use lib.Dec.{leb, eqb}
-use borrow.Author.Tests.{eqb-true, eqb-false, eq-eqb, ne-eqb, leb-true, le-leb, lt-leb}
-use Rattle.limits.specs.Test.{_&_, pick, total}
+use lib.Dec.{eqb}
+use borrow.Author.Tests.{eqb-true, eqb-false, leb-true, le-leb, lt-leb}
+use Rattle.limits.specs.Test.{pick, total}
 use Rattle.limits.proofs.Tests.{both}
 use Rattle.octets.specs.Over.{over, lowered}
 use Rattle.octets.specs.Number.{two, pair}
@@ -15,7 +15,7 @@ use Rattle.octets.proofs.Laws.{over-at, lowered-cleared}
 use Rattle.model.specs.declared.Point.{Point}
 use Rattle.model.specs.Place.{placeOf}
 use Rattle.table.specs.Table.{Station, Table, held, rising, placesOf, bodies, eight, entries, head, image}
-use Rattle.table.specs.Change.{stationOf, inStation, withPoints, changed, seekIn, known, removeIn, removed, emptied}
+use Rattle.table.specs.Change.{inStation, withPoints, changed, seekIn, known, removeIn, removed, emptied}
 use Rattle.table.proofs.Points.{length-places}
 use Rattle.table.proofs.Stations.{length-bodies, length-entries}
 use Rattle.table.proofs.Parse.{Good, Laid, laid}

@@ -1,6 +1,6 @@
 -- What taking points out does to a memory, as the code runs: nobody need believe these, the image laws tie them to `removed` and `emptied`.
-use Prim.Native.Nat.{ℕ, zero, suc, _+_, _*_, _-_, _/_, _%_}
-use mathlib.Core.List.{List, [], _∷_}
+use Prim.Native.Nat.{ℕ, zero, suc, _+_, _*_, _-_}
+use mathlib.Core.List.{List}
 use lib.ListN.{replicate}
 use Rattle.octets.specs.Over.{over, lowered}
 use Rattle.octets.specs.Number.{two, pair}

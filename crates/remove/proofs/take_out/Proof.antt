@@ -1,12 +1,11 @@
 -- Each step's contract in turn, with K and the number of points read before the first write.
-use mathlib.Core.Path.{_≡_, _∙_}
+use mathlib.Core.Path.{_∙_}
 use Prim.Native.Nat.{_+_, _*_, _-_}
 use denote.Ref.{now}
 use Rattle.octets.specs.Over.{over}
 use Rattle.octets.specs.Number.{pair}
 use Rattle.remove.specs.Remove.{closedUp, takenOut}
 use borrow.Author.Needs.{needs}
-use native.Mathlib.Omega.{arith}
 use Rattle.remove.proofs.take_out.Statement.{statement}
 use Rattle.remove.proofs.take_out.Tie as tie
 
