@@ -1,18 +1,20 @@
 -- All points taken out: the memory after it is the image of the emptied table, which is good. Assumes nothing.
 use mathlib.Core.Path.{_≡_, refl, sym, ap, _∙_}
 use mathlib.Core.List.{List, [], _∷_, _++_, map, append-assoc}
+use mathlib.Core.Option.{some}
 use Prim.Native.Nat.{ℕ, zero, suc, _+_, _*_, _-_, _≤_, _<_}
 use native.Mathlib.Omega.{arith}
-use lib.ListN.{length, replicate, length-append, length-replicate, replicate-append-replicate}
+use lib.ListN.{length, drop, replicate, length-append, length-replicate, replicate-append-replicate}
 use Rattle.limits.specs.Test.{total}
 use Rattle.octets.specs.Over.{over}
-use Rattle.octets.specs.Number.{two, pair}
+use Rattle.octets.specs.Number.{two, pair, Octets}
 use Rattle.octets.proofs.Laws.{over-at}
 use Rattle.model.specs.declared.Point.{Point}
 use Rattle.table.specs.Table.{Station, Table, held, placesOf, bodies, entries, head, image}
 use Rattle.table.specs.Change.{withPoints, emptied}
 use Rattle.table.proofs.Stations.{length-bodies}
-use Rattle.table.proofs.Parse.{Good, Laid, laid}
+use Rattle.table.specs.Memory.{parse}
+use Rattle.table.proofs.Parse.{Good, good-is, Laid, laid, parse-sound}
 use Rattle.remove.specs.Remove.{noneHeld, allTakenOut}
 use Rattle.remove.proofs.Cut.{six, head-over}
 
@@ -106,6 +108,17 @@ all-taken-out-image t rest g =
     ∙ ap (λ (x : List ℕ). over x 8 (pair 0)) none
     ∙ head-over K (length ss) n 0 (N ++ (Z ++ (E ++ rest)))
     ∙ sym ((λ j. (head K (bare-length ss j) (h0 j) ++ (bare-bodies ss j ++ (zeros j ++ E))) ++ rest) ∙ regroup-zeros (head K (length ss) 0) N Z E rest)
+
+-- The same of a memory that holds a table, with the number of points: what lies past the table's octets stays.
+pub all-taken-out-parsed : (m : List ℕ) (t : Table) → Octets m → parse m ≡ some t
+    → (two m 8 ≡ total held (t .stations)) × (allTakenOut m ≡ image (emptied t) ++ drop (length (image t)) m)
+all-taken-out-parsed m t o e =
+    let q = parse-sound m t o e in
+    let R : List ℕ = drop (length (image t)) m in
+    let g : Good t = good-is t (q .0) in (
+      ap (λ (x : List ℕ). two x 8) (q .1) ∙ laid t R g .is-n,
+      ap allTakenOut (q .1) ∙ all-taken-out-image t R g,
+    )
 
 -- What `take_all_out` asks of the numbers.
 pub take-all-out-bounds : (t : Table) (m : List ℕ) → Good t → Laid m t → (64 + 48 * two m 4 + 8 * two m 6 ≤ length m) × (two m 8 ≤ two m 4)

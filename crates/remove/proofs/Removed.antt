@@ -2,15 +2,16 @@
 use mathlib.Core.Path.{_≡_, refl, sym, ap, _∙_}
 use mathlib.Core.List.{List, [], _∷_, _++_, map, append-assoc}
 use mathlib.Core.Bool.{Bool, true, false}
+use mathlib.Core.Option.{some}
 use Prim.Native.Nat.{ℕ, suc, _+_, _*_, _-_, _≤_, _<_}
 use native.Mathlib.Omega.{arith}
-use lib.ListN.{length, replicate, length-append, length-replicate, replicate-append-replicate}
+use lib.ListN.{length, drop, replicate, length-append, length-replicate, replicate-append-replicate}
 use lib.Dec.{eqb}
 use borrow.Author.Tests.{eqb-true, eqb-false, leb-true, le-leb, lt-leb}
 use Rattle.limits.specs.Test.{pick, total}
 use Rattle.limits.proofs.Tests.{both}
 use Rattle.octets.specs.Over.{over, lowered}
-use Rattle.octets.specs.Number.{two, pair}
+use Rattle.octets.specs.Number.{two, pair, Octets}
 use Rattle.octets.proofs.Laws.{over-at, lowered-cleared}
 use Rattle.model.specs.declared.Point.{Point}
 use Rattle.model.specs.Place.{placeOf}
@@ -18,7 +19,8 @@ use Rattle.table.specs.Table.{Station, Table, held, rising, placesOf, bodies, e
 use Rattle.table.specs.Change.{inStation, withPoints, changed, seekIn, known, removeIn, removed, emptied}
 use Rattle.table.proofs.Points.{length-places}
 use Rattle.table.proofs.Stations.{length-bodies, length-entries}
-use Rattle.table.proofs.Parse.{Good, Laid, laid}
+use Rattle.table.specs.Memory.{parse}
+use Rattle.table.proofs.Parse.{Good, good-is, Laid, laid, parse-sound}
 use Rattle.table.proofs.Change.{Found, stations-split, station-rises, remove-length}
 use Rattle.remove.specs.Remove.{closedUp, takenOut}
 use Rattle.remove.proofs.Cut.{six, head-over, places-append, places-at, held-at, image-at}
@@ -240,6 +242,13 @@ taken-out-image t rest ca ioa s w i h at g k z =
     ∙ (λ j. over (over (closedUp (same j ++ rest) at (64 + 48 * n)) (64 + 48 * K + 8 * length (w .before) + 6) (pair (held s - 1))) 8 (pair (n - 1)))
     ∙ taken-out-cut K (w .before) s (w .after) ioa n rest (ap (total held) (sym (w .split))) (g .few) p at (z .place)
     ∙ (λ j. image (record { capacity = K; stations = sym (stations-split t ca (removeIn ioa) s w) j }) ++ rest)
+
+-- The same of a memory that holds a table: what lies past the table's octets stays.
+pub taken-out-parsed : (m : List ℕ) (t : Table) (ca ioa : ℕ) (s : Station) (w : Found ca (t .stations) s) (i h at : ℕ) → Octets m → parse m ≡ some t
+    → known ioa (s .points) ≡ true → StandsAt t ca ioa s w i h at → takenOut m i h at ≡ image (removed t ca ioa) ++ drop (length (image t)) m
+taken-out-parsed m t ca ioa s w i h at o e k z =
+    let q = parse-sound m t o e in
+    ap (λ (x : List ℕ). takenOut x i h at) (q .1) ∙ taken-out-image t (drop (length (image t)) m) ca ioa s w i h at (good-is t (q .0)) k z
 
 -- ---- what a removal leaves
 
