@@ -42,7 +42,7 @@ pointAt m at =
       ioa = three m (at + 3);
       group = two m (at + 6);
       counter = getD m (at + 8) 0;
-      value = twelve m (at + 10)
+      value = twelve m (at + 10);
     }
 
 -- the place at `at` holds a valid point of station ca, IOA not below `low`, and its spare octets are zero

@@ -56,7 +56,7 @@ pointOf q =
       ioa = q .ioa;
       group = groupNumber (q .group);
       counter = groupNumber (q .counter);
-      value = element (pointOctets (q .kind)) (q .value)
+      value = element (pointOctets (q .kind)) (q .value);
     }
 
 -- ---- the flat form: CA 2, IOA 4, type 1, has interrogation group 1, group 1, has counter group 1, counter group 1, spare 1, value 12
@@ -73,7 +73,7 @@ requestAt m at =
       kind = getD m (at + 6) 0;
       group = givenGroup (getD m (at + 7) 0) (getD m (at + 8) 0);
       counter = givenGroup (getD m (at + 9) 0) (getD m (at + 10) 0);
-      value = twelve m (at + 12)
+      value = twelve m (at + 12);
     }
 
 -- the n requests from `at`

@@ -36,7 +36,7 @@ pub at-snd : (m xs ys : List ℕ) (at : ℕ) → At m at (xs ++ ys) → At m (at
 at-snd m xs ys at a =
     let n : ℕ = length xs in
     let e : drop at m ≡ xs ++ (ys ++ drop (at + n + length ys) m) =
-      a .is ∙ rw (length-append, append-assoc, add-assoc) in
+    a .is ∙ rw (length-append, append-assoc, add-assoc) in
     record { is = sym (drop-drop n at m) ∙ ap (drop n) e ∙ drop-append-seam xs (ys ++ drop (at + n + length ys) m) }
 
 pub at-rest : (m xs ys : List ℕ) (at n : ℕ) → length xs ≡ n → At m at (xs ++ ys) → At m (at + n) ys

@@ -1,3 +1,4 @@
 pub mod Laws
 pub mod Log
 pub mod At
+pub mod Zero

@@ -22,6 +22,10 @@ three m at = getD m at 0 + 256 * (getD m (at + 1) 0 + 256 * getD m (at + 2) 0)
 abbrev pub four : List ℕ → ℕ → ℕ
 four m at = getD m at 0 + 256 * (getD m (at + 1) 0 + 256 * (getD m (at + 2) 0 + 256 * getD m (at + 3) 0))
 
+-- eight octets from `at` as a number
+abbrev pub eight : List ℕ → ℕ → ℕ
+eight m at = four m at + 4294967296 * four m (at + 4)
+
 -- twelve octets from `at`
 abbrev pub twelve : List ℕ → ℕ → List ℕ
 twelve m at =
