@@ -11,7 +11,7 @@ use lib.Dec.{eqb, leb, ltb}
 use lib.ListN.{length, getD, set, List·getD-eq-default}
 use lib.Seq.{ext-getD, getD-set-same, getD-set-other}
 use borrow.Author.Count.{below-more}
-use borrow.Author.Tests.{eqb-true, eqb-false, leb-true, ltb-true, le-ltb}
+use borrow.Author.Tests.{eqb-true, eqb-false, leb-true, le-ltb}
 use Rattle.limits.specs.Test.{_&_, pick, total}
 use Rattle.limits.proofs.Tests.{both}
 use Rattle.limits.specs.Size.{Kind, pointTypes, systemTypes, processTypes, endTypes, namedTypes, listed, octetsIn, pointOctets, elementOctets, classOf, standardLimit, controlOctets, headerOctets, addressOctets, mostObjects, runOctets, valuesFrom, pointSizes, classNumber, kindCode, kindCodes, pointPart}
