@@ -1,3 +1,4 @@
 pub mod Tests
+pub mod Sizes
 pub mod Shares
 pub mod Cases
