@@ -19,6 +19,7 @@ number-zero m at (suc n) = go (getD m at 0) (number m (at + 1) n) (eqb (getD m a
     low : (x y : ℕ) (b : Bool) → eqb y 0 ≡ b → x ≡ 0 → eqb (x + 256 * y) 0 ≡ b
     low x y true q z = let w : y ≡ 0 = eqb-true _ _ q in eq-eqb (x + 256 * y) 0 (omega arith)
     low x y false q z = let w : y ≡ 0 → ⊥ = eqb-false _ _ q in ne-eqb (x + 256 * y) 0 (λ t. w (omega arith))
+
     go : (x y : ℕ) (b : Bool) → eqb x 0 ≡ b → eqb (x + 256 * y) 0 ≡ (b & eqb y 0)
     go x y true e = low x y (eqb y 0) refl (eqb-true x 0 e)
     go x y false e = let z : x ≡ 0 → ⊥ = eqb-false x 0 e in ne-eqb (x + 256 * y) 0 (λ t. z (omega arith))
@@ -49,7 +50,7 @@ below-power m o zero at n =
     let i : at ≡ at + 0 = omega arith in
     let k : n ≡ n - 0 = omega arith in
     below-one (number m at n) ∙ number-zero m at n ∙ (λ j. zeros m (i j) (k j))
-below-power m o (suc e) at zero = 
+below-power m o (suc e) at zero =
     let k : 0 - suc e ≡ 0 = omega arith in
     lt-ltb 0 (256 * power e) (let z = power-positive e in omega arith) ∙ ap (zeros m (at + suc e)) (sym k)
 below-power m o (suc e) at (suc n) =
@@ -63,7 +64,7 @@ four-number m at =
     let a : at + 1 + 1 ≡ at + 2 = omega arith in
     let b : at + 1 + 1 + 1 ≡ at + 3 = omega arith in
     let p : number m at 4 ≡ getD m at 0 + 256 * (getD m (at + 1) 0 + 256 * (getD m (at + 2) 0 + 256 * (getD m (at + 3) 0 + 0))) =
-      λ j. getD m at 0 + 256 * (getD m (at + 1) 0 + 256 * (getD m (a j) 0 + 256 * (getD m (b j) 0 + 0))) in
+    λ j. getD m at 0 + 256 * (getD m (at + 1) 0 + 256 * (getD m (a j) 0 + 256 * (getD m (b j) 0 + 0))) in
     omega arith
 
 -- a number in two parts
