@@ -11,7 +11,7 @@ use lib.Dec.{eqb, leb, ltb}
 use lib.ListN.{length, getD, set, List·getD-eq-default}
 use lib.Seq.{ext-getD, getD-set-same, getD-set-other}
 use borrow.Author.Count.{below-more}
-use borrow.Author.Tests.{eqb-true, eqb-false, leb-true, ltb-true, le-ltb}
+use borrow.Author.Tests.{eqb-true, eqb-false, leb-true, le-ltb}
 use Rattle.limits.specs.Test.{_&_, pick, total}
 use Rattle.limits.proofs.Tests.{both}
 use Rattle.limits.specs.Size.{Kind, pointTypes, systemTypes, processTypes, endTypes, namedTypes, listed, octetsIn, pointOctets, elementOctets, classOf, standardLimit, controlOctets, headerOctets, addressOctets, mostObjects, runOctets, valuesFrom, pointSizes, classNumber, kindCode, kindCodes, pointPart}
@@ -252,27 +252,38 @@ beyond-codes k h =
 
 -- ---- packing, over all element sizes and length limits
 
--- At the standard's limit 243 octets are divided.
-pub standard-room : standardLimit - (controlOctets + headerOctets) ≡ 243
-standard-room = refl
+-- Document 01's sentence, at the standard's limit: 243 divided by 3 and the element octets, at most 127.
+pub standard-most : (element : ℕ) → mostObjects standardLimit element ≡ min (243 / (3 + element)) 127
+standard-most element = refl
+
+-- Less room than an object's width holds none.
+pub none-fits : (room width most : ℕ) → room < width → min (room / width) most ≡ 0
+none-fits room width most h = let z : room / width ≡ 0 = div-eq-of-lt h in omega arith
+
+-- Room for an object's width holds one.
+pub some-fit : (room width most : ℕ) → 1 ≤ most → 1 ≤ width → width ≤ room → 1 ≤ min (room / width) most
+some-fit room width most m p h =
+    let d : 1 ≤ room / width = le-div-iff-mul-le {k = width} {x = 1} {y = room} p .1 (omega arith) in
+    omega arith
+
+-- No more objects than fit take no more than the room.
+pub fits : (room width most n : ℕ) → n ≤ min (room / width) most → n * width ≤ room
+fits room width most n h =
+    let a : n * width ≤ room / width * width = mul-le-mul-right width (omega arith) in
+    omega (arith, div-mul-le-self room width)
 
 -- At least one object fits where the limit leaves room for one.
-pub one-object : (limit element : ℕ) → 13 + element ≤ limit → 1 ≤ mostObjects limit element
-one-object limit element h =
-    let d : 1 ≤ (limit - 10) / (3 + element) = le-div-iff-mul-le {k = 3 + element} {x = 1} {y = limit - 10} (omega arith) .1 (omega arith) in
-    omega arith
+pub one-object : (limit element : ℕ) → controlOctets + headerOctets + addressOctets + element ≤ limit → 1 ≤ mostObjects limit element
+one-object limit element h = some-fit _ _ _ (omega arith) (omega arith) (omega arith)
 
 -- At least one object of each point type fits, at every limit from 25 on.
 pub one-fits : (limit element : ℕ) → 25 ≤ limit → element ≤ 12 → 1 ≤ mostObjects limit element
 one-fits limit element h e = one-object limit element (omega arith)
 
 -- An ASDU of at most that many objects is no longer than the limit less its control octets.
-pub asdu-fits : (limit element n : ℕ) → 10 ≤ limit → n ≤ mostObjects limit element → headerOctets + n * (addressOctets + element) ≤ limit - controlOctets
-asdu-fits limit element n l h =
-    let w : ℕ = 3 + element in
-    let a : n * w ≤ (limit - 10) / w * w = mul-le-mul-right w (omega arith) in
-    let b : (limit - 10) / w * w ≤ limit - 10 = div-mul-le-self (limit - 10) w in
-    omega arith
+pub asdu-fits : (limit element n : ℕ) → controlOctets + headerOctets ≤ limit → n ≤ mostObjects limit element
+    → headerOctets + n * (addressOctets + element) ≤ limit - controlOctets
+asdu-fits limit element n l h = omega (arith, fits _ _ _ n h)
 
 -- No objects take no octets.
 pub run-none : (limit element : ℕ) → runOctets limit element 0 ≡ 0

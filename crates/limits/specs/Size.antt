@@ -3,7 +3,7 @@
 use Prim.Native.Nat.{ℕ, zero, suc, _+_, _*_, _-_, _/_, _%_, min}
 use mathlib.Core.Bool.{Bool, true, false}
 use mathlib.Core.List.{List, [], _∷_, _++_}
-use lib.Dec.{leb, eqb}
+use lib.Dec.{eqb}
 use Rattle.limits.specs.Test.{pick}
 use Rattle.limits.specs.declared.size.Class.{Class}
 use Rattle.limits.specs.declared.size.Class.the-variants.{Point, System, Process, EndOfInitialization, Unknown}

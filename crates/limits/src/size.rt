@@ -161,7 +161,7 @@ pub fn most_objects(limit: usize, element: usize) -> usize
     fit
 }
 
-// The octets of a run of n objects: each ASDU but the last is full.
+// The octets of a run of n objects, each ASDU full but the last; n far above the points of any table is taken.
 pub fn run_octets(limit: usize, element: usize, n: usize) -> usize
     requires { ⌜ (controlOctets + headerOctets + addressOctets + element ≤ limit) × (limit ≤ standardLimit) × (n ≤ 65536) ⌝ }
     ensures { λ r. ⌜ r ≡ runOctets limit element n ⌝ }

@@ -1,5 +1,5 @@
 -- The table read at a type's number is the type's entry; past the table no type is named.
-use mathlib.Core.Path.{sym, _∙_}
+use mathlib.Core.Path.{sym}
 use borrow.Author.Needs.{needs}
 use native.Mathlib.Omega.{arith}
 use Rattle.limits.proofs.Sizes.{codes-at, beyond-codes}

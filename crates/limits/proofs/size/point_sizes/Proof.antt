@@ -1,10 +1,10 @@
 -- The loop's invariant: the sizes below the loop's type are those of the points. The measure is what is left of the 41.
-use mathlib.Core.Path.{_≡_, refl, sym, ap, _∙_}
+use mathlib.Core.Path.{_≡_, refl, ap, _∙_}
 use Prim.Native.Nat.{ℕ, _-_, _≤_, _<_}
 use borrow.Author.Needs.{needs}
 use native.Mathlib.Omega.{arith}
 use lib.ListN.{length, getD, length-set}
-use Rattle.limits.specs.Size.{kindCode, kindCodes, pointOctets, pointSizes}
+use Rattle.limits.specs.Size.{pointOctets, pointSizes}
 use Rattle.limits.proofs.Sizes.{codes-at, one-more, all-values, point-entry}
 use Rattle.limits.proofs.size.point_sizes.Statement.{statement}
 use Rattle.limits.proofs.size.point_sizes.Tie as tie
