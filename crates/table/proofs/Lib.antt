@@ -2,4 +2,5 @@ pub mod Points
 pub mod Stations
 pub mod Parse
 pub mod Shares
+pub mod Change
 pub mod Case
