@@ -7,7 +7,7 @@ use native.Mathlib.Omega.{arith}
 use lib.Dec.{ltb}
 use borrow.Author.Tests.{eq-eqb, ne-eqb, lt-ltb, le-ltb, ltb-true}
 use Rattle.limits.specs.Test.{_&_, pick}
-use Rattle.octets.specs.Number.{two, three}
+use Rattle.octets.specs.Number.{two}
 use Rattle.seats.specs.declared.Seat.the-variants.{Here, NotPlanned}
 use Rattle.seats.specs.Seats.{seatIn}
 use Rattle.seats.specs.declared.Bounds.{Bounds}
@@ -82,10 +82,10 @@ module _ (m : List ℕ) (first n ioa j : ℕ) where
   unfolding spotAt _&_
   missing-end h = simp (le-ltb _ _ h)
 
-  pub held-here : j < n → three m (first + 48 * j + 3) ≡ ioa → Held (first + 48 * j) ≡ spotAt m first n ioa j
-  unfolding spotAt ioaAt _&_
-  held-here h e = simp (lt-ltb _ _ h, eq-eqb _ _ e)
+  pub held-at : j < n → ioaAt m first j ≡ ioa → Held (first + 48 * j) ≡ spotAt m first n ioa j
+  unfolding spotAt _&_
+  held-at h e = simp (lt-ltb _ _ h, eq-eqb _ _ e)
 
-  pub missing-here : j < n → (three m (first + 48 * j + 3) ≡ ioa → ⊥) → Missing (first + 48 * j) ≡ spotAt m first n ioa j
-  unfolding spotAt ioaAt _&_
-  missing-here h e = simp (lt-ltb _ _ h, ne-eqb _ _ e)
+  pub missing-at : j < n → (ioaAt m first j ≡ ioa → ⊥) → Missing (first + 48 * j) ≡ spotAt m first n ioa j
+  unfolding spotAt _&_
+  missing-at h e = simp (lt-ltb _ _ h, ne-eqb _ _ e)

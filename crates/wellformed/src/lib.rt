@@ -185,4 +185,3 @@ fn plan_and_shares(m: &[u8], k: usize, sb: usize, n: usize, points: usize) -> bo
     }
     shares_ok(k, s.reserved, points, s.unmet)
 }
-

@@ -1,7 +1,7 @@
 use mathlib.Core.Path.{ap, _∙_}
 use denote.Ref.{now}
-use Rattle.seats.specs.Find.{spotAt, findAt}
-use Rattle.seats.proofs.Walk.{missing-end, held-here, missing-here}
+use Rattle.seats.specs.Find.{ioaAt, spotAt, findAt}
+use Rattle.seats.proofs.Walk.{missing-end, held-at, missing-at}
 use borrow.Author.Needs.{needs}
 use native.Mathlib.Omega.{arith}
 use Rattle.seats.proofs.find.Statement.{statement}
@@ -30,18 +30,18 @@ three-at-requires : tie.Need-three-at-requires
 three-at-requires c κs = search needs
 
 returns-2 : tie.Need-returns-2
-unfolding findAt
+unfolding findAt ioaAt
 returns-2 c =
     let a = c .before .before .before .before .before .args in
     let s = c .before .before .before .seek in
-    held-here (now (a .m)) (a .first) (a .n) (a .ioa) (s .result) (omega arith) (omega arith) ∙ ap (spotAt (now (a .m)) (a .first) (a .n) (a .ioa)) (s .ensures .0)
+    held-at (now (a .m)) (a .first) (a .n) (a .ioa) (s .result) (omega arith) (omega arith) ∙ ap (spotAt (now (a .m)) (a .first) (a .n) (a .ioa)) (s .ensures .0)
 
 returns-3 : tie.Need-returns-3
-unfolding findAt
+unfolding findAt ioaAt
 returns-3 c =
     let a = c .before .before .before .before .before .args in
     let s = c .before .before .before .seek in
-    missing-here (now (a .m)) (a .first) (a .n) (a .ioa) (s .result) (omega arith) (omega arith) ∙ ap (spotAt (now (a .m)) (a .first) (a .n) (a .ioa)) (s .ensures .0)
+    missing-at (now (a .m)) (a .first) (a .n) (a .ioa) (s .result) (omega arith) (omega arith) ∙ ap (spotAt (now (a .m)) (a .first) (a .n) (a .ioa)) (s .ensures .0)
 
 pub find-spec : {M : Type 1} → statement M
 find-spec =

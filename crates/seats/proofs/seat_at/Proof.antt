@@ -23,7 +23,7 @@ seat-from-requires c κs = search needs
 
 returns : tie.Need-returns
 unfolding seatAt
-returns c = 
+returns c =
     let m = now (c .before .before .before .before .args .m) in
     let e4 = c .before .before .two-at .ensures .0 in
     let e6 = c .before .two-at2 .ensures .0 in

@@ -29,7 +29,7 @@ two-at-requires-2 : tie.Need-two-at-requires-2 Inv-loop μ-loop
 two-at-requires-2 c κs = search needs
 
 returns : tie.Need-returns Inv-loop μ-loop
-returns c = 
+returns c =
     let m = now (c .before .before .before .before .before .before .args .m) in
     let l = c .before .before .before .before .loop in
     let h : c .before .before .two-at .result ≡ two m (l .sb + 6) = omega arith in
@@ -54,7 +54,7 @@ loop-less : tie.Need-loop-less Inv-loop μ-loop
 loop-less c = search needs
 
 loop-again : tie.Need-loop-again Inv-loop μ-loop
-loop-again c = 
+loop-again c =
     let m = now (c .before .before .before .before .before .before .args .m) in
     let l = c .before .before .before .before .loop in
     let h : c .before .before .two-at .result ≡ two m (l .sb + 6) = omega arith in

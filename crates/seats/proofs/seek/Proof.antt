@@ -36,9 +36,12 @@ loop-again c =
     let key = ioaAt (now (a .m)) (a .first) in
     let q = nearer key (a .ioa) (l .low) (l .high) (omega arith) in
     let near = subst (Nearer (l .low) (l .high)) (sym (c .narrow .ensures)) q in
-    let to = near .to in
-    (l .inv .0 ∙ halve-on key (a .ioa) (l .low) (l .high) (a .n) (omega arith) (omega arith)
-      ∙ ap (λ (b : Bounds). halve key (a .ioa) (b .low) (b .high) (a .n)) (sym (c .narrow .ensures)), near .order, omega arith)
+    let to = near .to in (
+      l .inv .0 ∙ halve-on key (a .ioa) (l .low) (l .high) (a .n) (omega arith) (omega arith)
+          ∙ ap (λ (b : Bounds). halve key (a .ioa) (b .low) (b .high) (a .n)) (sym (c .narrow .ensures)),
+      near .order,
+      omega arith,
+    )
 
 returns : tie.Need-returns Inv-loop μ-loop
 returns c =

@@ -13,7 +13,7 @@ use Rattle.wellformed.proofs.head_ok.Tie as tie
 
 returns : tie.Need-returns
 unfolding headAt _&_
-returns c = 
+returns c =
     let a = c .before .before .args in
     let m = now (a .m) in
     let t0 : length m < 64 = omega arith in
@@ -24,7 +24,7 @@ mark-ok-requires c κs = search needs
 
 returns-2 : tie.Need-returns-2
 unfolding headAt _&_
-returns-2 c = 
+returns-2 c =
     let a = c .before .before .before .before .args in
     let m = now (a .m) in
     let t0 : 64 ≤ length m = omega arith in
@@ -38,7 +38,7 @@ two-at-requires-2 c κs = search needs
 
 returns-3 : tie.Need-returns-3
 unfolding headAt _&_
-returns-3 c = 
+returns-3 c =
     let a = c .before .before .before .before .before .before .before .args in
     let m = now (a .m) in
     let t0 : 64 ≤ length m = omega arith in
@@ -47,7 +47,7 @@ returns-3 c =
 
 returns-4 : tie.Need-returns-4
 unfolding headAt _&_
-returns-4 c = 
+returns-4 c =
     let a = c .before .before .before .before .before .before .before .before .args in
     let m = now (a .m) in
     let t0 : 64 ≤ length m = omega arith in
@@ -57,7 +57,7 @@ returns-4 c =
 
 returns-5 : tie.Need-returns-5
 unfolding headAt _&_
-returns-5 c = 
+returns-5 c =
     let a = c .before .before .before .before .before .before .before .before .before .args in
     let m = now (a .m) in
     let t0 : 64 ≤ length m = omega arith in
@@ -68,7 +68,7 @@ returns-5 c =
 
 returns-6 : tie.Need-returns-6
 unfolding headAt _&_
-returns-6 c = 
+returns-6 c =
     let a = c .before .before .before .before .before .before .before .before .before .before .args in
     let m = now (a .m) in
     let t0 : 64 ≤ length m = omega arith in
@@ -92,7 +92,7 @@ add-if7-2 c = search needs
 
 returns-7 : tie.Need-returns-7
 unfolding headAt _&_
-returns-7 c = 
+returns-7 c =
     let a = c .before .before .before .before .before .before .before .before .before .before .before .args in
     let m = now (a .m) in
     let t0 : 64 ≤ length m = omega arith in
@@ -108,7 +108,7 @@ all-zero-requires c κs = search needs
 
 returns-8 : tie.Need-returns-8
 unfolding headAt _&_
-returns-8 c = 
+returns-8 c =
     let a = c .before .before .before .before .before .before .before .before .before .before .before .before .args in
     let m = now (a .m) in
     let t0 : 64 ≤ length m = omega arith in

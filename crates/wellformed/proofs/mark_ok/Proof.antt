@@ -14,7 +14,7 @@ shared-slice-read-if1 c = search needs
 
 returns : tie.Need-returns
 unfolding markAt _&_
-returns c = 
+returns c =
     let a = c .before .before .args in
     let m = now (a .m) in
     let t0 : getD m 0 0 ≡ 75 → ⊥ = omega arith in
@@ -25,7 +25,7 @@ shared-slice-read-if2 c = search needs
 
 returns-2 : tie.Need-returns-2
 unfolding markAt _&_
-returns-2 c = 
+returns-2 c =
     let a = c .before .before .before .before .args in
     let m = now (a .m) in
     let t0 : getD m 0 0 ≡ 75 = omega arith in
@@ -37,7 +37,7 @@ shared-slice-read-if3 c = search needs
 
 returns-3 : tie.Need-returns-3
 unfolding markAt _&_
-returns-3 c = 
+returns-3 c =
     let a = c .before .before .before .before .before .before .args in
     let m = now (a .m) in
     let t0 : getD m 0 0 ≡ 75 = omega arith in
@@ -50,7 +50,7 @@ shared-slice-read-result c = search needs
 
 returns-4 : tie.Need-returns-4
 unfolding markAt _&_
-returns-4 c = 
+returns-4 c =
     let a = c .before .before .before .before .before .before .before .args in
     let m = now (a .m) in
     let t0 : getD m 0 0 ≡ 75 = omega arith in

@@ -8,14 +8,14 @@ use Rattle.wellformed.proofs.numbers_ok.Tie as tie
 
 returns : tie.Need-returns
 unfolding numbersOk _&_
-returns c = 
+returns c =
     let a = c .before .args in
     let t0 : a .ca < a .low = omega arith in
     simp (lt-leb _ _ t0)
 
 returns-2 : tie.Need-returns-2
 unfolding numbersOk _&_
-returns-2 c = 
+returns-2 c =
     let a = c .before .before .args in
     let t0 : a .low ≤ a .ca = omega arith in
     let t1 : 65534 < a .ca = omega arith in
@@ -23,7 +23,7 @@ returns-2 c =
 
 returns-3 : tie.Need-returns-3
 unfolding numbersOk _&_
-returns-3 c = 
+returns-3 c =
     let a = c .before .before .before .args in
     let t0 : a .low ≤ a .ca = omega arith in
     let t1 : a .ca ≤ 65534 = omega arith in
@@ -32,7 +32,7 @@ returns-3 c =
 
 returns-4 : tie.Need-returns-4
 unfolding numbersOk _&_
-returns-4 c = 
+returns-4 c =
     let a = c .before .before .before .before .args in
     let t0 : a .low ≤ a .ca = omega arith in
     let t1 : a .ca ≤ 65534 = omega arith in
@@ -42,7 +42,7 @@ returns-4 c =
 
 returns-5 : tie.Need-returns-5
 unfolding numbersOk _&_
-returns-5 c = 
+returns-5 c =
     let a = c .before .before .before .before .args in
     let t0 : a .low ≤ a .ca = omega arith in
     let t1 : a .ca ≤ 65534 = omega arith in

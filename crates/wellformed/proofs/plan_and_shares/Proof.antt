@@ -21,7 +21,7 @@ add-up-requires c κs = search needs
 
 returns-2 : tie.Need-returns-2
 unfolding sharesAt _&_
-returns-2 c = 
+returns-2 c =
     let a = c .before .before .before .before .before .before .args in
     let q : a .points ≡ sumAt heldAt (now (a .m)) (a .sb) (a .n) → ⊥ = omega arith in
     simp (sym (c .before .before .before .before .plan-ok .ensures) ∙ not-false _ (c .before .before .before .if1 .left), ne-eqb _ _ q)
@@ -31,7 +31,7 @@ shares-ok-requires c κs = search needs
 
 returns-3 : tie.Need-returns-3
 unfolding sharesAt _&_
-returns-3 c = 
+returns-3 c =
     let a = c .before .before .before .before .before .before .before .args in
     let q : a .points ≡ sumAt heldAt (now (a .m)) (a .sb) (a .n) = omega arith in
     let s = c .before .before .before .add-up in

@@ -42,7 +42,7 @@ loop-less : tie.Need-loop-less Inv-loop μ-loop
 loop-less c = search needs
 
 loop-again : tie.Need-loop-again Inv-loop μ-loop
-loop-again c = 
+loop-again c =
     let e : c .two-at .result ≡ two (now (c .before .before .before .before .before .before .args .m)) (c .before .before .before .before .loop .sb) = omega arith in
     (c .before .before .before .before .loop .inv .0 ∙ plan-on _ _ _ (omega arith) _ _ (sym (c .before .before .station-ok .ensures) ∙ not-false _ (c .before .if1 .left)) ∙ rw e refl, omega arith)
 

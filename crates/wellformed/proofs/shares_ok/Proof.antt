@@ -8,14 +8,14 @@ use Rattle.wellformed.proofs.shares_ok.Tie as tie
 
 returns : tie.Need-returns
 unfolding sharesOk _&_
-returns c = 
+returns c =
     let a = c .before .args in
     let t0 : a .k < a .r = omega arith in
     simp (lt-leb _ _ t0)
 
 returns-2 : tie.Need-returns-2
 unfolding sharesOk _&_
-returns-2 c = 
+returns-2 c =
     let a = c .before .before .args in
     let t0 : a .r ≤ a .k = omega arith in
     let t1 : a .k < a .h = omega arith in
@@ -23,7 +23,7 @@ returns-2 c =
 
 returns-3 : tie.Need-returns-3
 unfolding sharesOk _&_
-returns-3 c = 
+returns-3 c =
     let a = c .before .before .args in
     let t0 : a .r ≤ a .k = omega arith in
     let t1 : a .h ≤ a .k = omega arith in
