@@ -1,7 +1,7 @@
 -- Histories: any calls from an opened table on, each given the table as the call before left it, and the holdings counted from their answers.
 -- Demand 3.
 use mathlib.Core.Path.{_≡_}
-use Prim.Native.Nat.{ℕ, _+_}
+use Prim.Native.Nat.{ℕ, _+_, _-_}
 use mathlib.Core.List.{List, [], _∷_, map}
 use mathlib.Core.Bool.{Bool, true, false}
 use mathlib.Core.Option.{Option, none, some}
@@ -25,6 +25,15 @@ pub record Holding : Type 0 where
 
 abbrev pub holdingOf : Station → Holding
 holdingOf s = record { ca = s .ca; reservation = s .reservation; ceiling = s .ceiling; held = length (s .points) }
+
+-- A line of the plan: what a station was sold.
+pub record Line : Type 0 where
+  pub ca : ℕ
+  pub reservation : ℕ
+  pub ceiling : ℕ
+
+abbrev pub lineOf : Station → Line
+lineOf s = record { ca = s .ca; reservation = s .reservation; ceiling = s .ceiling }
 
 -- A call that changes no holding: every good table stays good and every station holds what it held. So do all commands.
 pub record Quiet (f : Table → Effect) : Type 0 where
@@ -65,13 +74,25 @@ pub record Tally : Type 0 where
   pub granted : ℕ
   pub removed : ℕ
 
--- One call and its answer, counted: a call done grants its points, or removes one, or removes all that are left.
+-- The points that a call grants to a station, by the call's answer.
+abbrev pub grantedBy : ℕ → Call → Reply → ℕ
+grantedBy ca (register q w) r = pick (isDone (r .outcome) & eqb (q .ca) ca) 1 0
+grantedBy ca (registerAll qs w) r = pick (isDone (r .outcome)) (requestsOf ca qs) 0
+grantedBy ca (unregister c ioa) r = 0
+grantedBy ca unregisterAll r = 0
+grantedBy ca (command f w) r = 0
+
+-- The points that a call removes from a station which has `left` of those granted, by the call's answer.
+abbrev pub removedBy : ℕ → Call → Reply → ℕ → ℕ
+removedBy ca (register q w) r left = 0
+removedBy ca (registerAll qs w) r left = 0
+removedBy ca (unregister c ioa) r left = pick (isDone (r .outcome) & eqb c ca) 1 0
+removedBy ca unregisterAll r left = pick (isDone (r .outcome)) left 0
+removedBy ca (command f w) r left = 0
+
+-- One call and its answer, counted.
 abbrev pub counted : ℕ → Call → Reply → Tally → Tally
-counted ca (register q w) r n = record { granted = n .granted + pick (isDone (r .outcome) & eqb (q .ca) ca) 1 0; removed = n .removed }
-counted ca (registerAll qs w) r n = record { granted = n .granted + pick (isDone (r .outcome)) (requestsOf ca qs) 0; removed = n .removed }
-counted ca (unregister c ioa) r n = record { granted = n .granted; removed = n .removed + pick (isDone (r .outcome) & eqb c ca) 1 0 }
-counted ca unregisterAll r n = record { granted = n .granted; removed = pick (isDone (r .outcome)) (n .granted) (n .removed) }
-counted ca (command f w) r n = n
+counted ca c r n = record { granted = n .granted + grantedBy ca c r; removed = n .removed + removedBy ca c r (n .granted - n .removed) }
 
 -- What a station holds in a table; an address without a station holds nothing.
 unfoldable pub heldBy : Option Station → ℕ
