@@ -16,7 +16,7 @@ use Rattle.table.proofs.Stations.{length-bodies}
 use Rattle.table.specs.Memory.{parse}
 use Rattle.table.proofs.Parse.{Good, good-is, Laid, laid, parse-sound}
 use Rattle.remove.specs.Remove.{noneHeld, allTakenOut}
-use Rattle.remove.proofs.Cut.{six, head-over}
+use Rattle.table.proofs.Cut.{six, head-over}
 
 -- ---- the turns of the loop over the stations
 

@@ -1,3 +1,3 @@
-pub mod Cut
 pub mod Removed
 pub mod Emptied
+pub mod Entry

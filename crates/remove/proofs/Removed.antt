@@ -23,7 +23,7 @@ use Rattle.table.specs.Memory.{parse}
 use Rattle.table.proofs.Parse.{Good, good-is, Laid, laid, parse-sound}
 use Rattle.table.proofs.Change.{Found, stations-split, station-rises, remove-length}
 use Rattle.remove.specs.Remove.{closedUp, takenOut}
-use Rattle.remove.proofs.Cut.{six, head-over, places-append, places-at, held-at, image-at}
+use Rattle.table.proofs.Cut.{six, head-over, places-append, places-at, held-at, image-at}
 
 -- ---- the points
 
