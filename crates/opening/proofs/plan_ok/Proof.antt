@@ -19,8 +19,6 @@ returns : tie.Need-returns
 unfolding validPlan _&_
 returns c =
     let a = c .before .before .args in
-    let ss = planned (now (a .plan)) in
-    let e : length ss ≡ a .n = length-planned (now (a .plan)) (a .n) (omega arith) in
     let t0 : a .k < 1 = omega arith in
     simp (lt-leb _ _ t0)
 
@@ -28,8 +26,6 @@ returns-2 : tie.Need-returns-2
 unfolding validPlan _&_
 returns-2 c =
     let a = c .before .before .before .args in
-    let ss = planned (now (a .plan)) in
-    let e : length ss ≡ a .n = length-planned (now (a .plan)) (a .n) (omega arith) in
     let t0 : 1 ≤ a .k = omega arith in
     let t1 : 4096 < a .k = omega arith in
     simp (le-leb _ _ t0, lt-leb _ _ t1)
