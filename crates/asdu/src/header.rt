@@ -3,7 +3,6 @@ ghost use mathlib.Core.Path.{_≡_};
 ghost use Prim.Native.Nat.{_+_, _≤_, _<_};
 ghost use lib.ListN.{length};
 ghost use Rattle.limits.specs.Test.{pick};
-ghost use Rattle.octets.specs.Number.{triple};
 ghost use Rattle.octets.specs.Over.{over};
 ghost use Rattle.asdu.specs.Header.{header, object, asdu};
 
@@ -49,14 +48,6 @@ fn header_octets(h: Header) -> [u8; 6]
     ]
 }
 
-// An object address as its three octets.
-fn address_octets(ioa: u32) -> [u8; 3]
-    requires { ⌜ ioa < 16777216 ⌝ }
-    ensures { λ r. ⌜ r ≡ triple ioa ⌝ }
-{
-    [(ioa % 256) as u8, (ioa / 256 % 256) as u8, (ioa / 65536) as u8]
-}
-
 // Writes a header at the front of `out`.
 pub fn put_header(out: &mut [u8], h: Header) -> usize
     requires { ⌜ (h .cause < 64) × (length (header h) ≤ length (now out)) ⌝ }
@@ -68,12 +59,11 @@ pub fn put_header(out: &mut [u8], h: Header) -> usize
 }
 
 // Writes an object at the front of `out`.
-pub fn put_object(out: &mut [u8], ioa: u32, element: &[u8]) -> usize
+pub fn put_object(out: &mut [u8], ioa: usize, element: &[u8]) -> usize
     requires { ⌜ (ioa < 16777216) × (length (object ioa (now element)) ≤ length (now out)) ⌝ }
     ensures { λ r. ⌜ (r ≡ length (object ioa (now (element .entry)))) × (now (out .exit) ≡ over (now (out .entry)) 0 (object ioa (now (element .entry)))) ⌝ }
 {
-    let address = address_octets(ioa);
-    octets::copy_in(&address, out, 0);
+    octets::put_three(out, 0, ioa);
     octets::copy_in(element, out, ADDRESS_SIZE);
     ADDRESS_SIZE + element.len()
 }
