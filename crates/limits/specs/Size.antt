@@ -1,6 +1,6 @@
 -- Sizes: the element octets of every type, the most objects in one ASDU, and the octets of a run of objects.
 -- Document 01, 'Octets of an ASDU'; IEC 60870-5-101, 7.2.1 (types) and 7.3 (elements); IEC 60870-5-104, 5 (253 octets after the length octet).
-use Prim.Native.Nat.{ℕ, _+_, _*_, _-_, _/_, min}
+use Prim.Native.Nat.{ℕ, zero, suc, _+_, _*_, _-_, _/_, min}
 use mathlib.Core.Bool.{Bool, true, false}
 use mathlib.Core.List.{List, [], _∷_, _++_}
 use lib.Dec.{leb, eqb}
@@ -37,6 +37,10 @@ processTypes =
 unfoldable pub endTypes : List Kind
 endTypes = 70 ⇒ 1 ∷ []
 
+-- Every type that document 01 names.
+unfoldable pub namedTypes : List Kind
+namedTypes = pointTypes ++ (systemTypes ++ (processTypes ++ endTypes))
+
 -- Does a list have the type?
 unfoldable pub listed : List Kind → ℕ → Bool
 listed [] n = false
@@ -49,17 +53,14 @@ octetsIn (k ∷ ks) n = pick (eqb (k .number) n) (k .octets) (octetsIn ks n)
 
 -- The element octets of a point type; 0 for every other type.
 unfoldable pub pointOctets : ℕ → ℕ
-unfolding pointTypes
 pointOctets n = octetsIn pointTypes n
 
--- The element octets of any type that this paper names; 0 for the others.
+-- The element octets of any type that document 01 names; 0 for the others.
 unfoldable pub elementOctets : ℕ → ℕ
-unfolding pointTypes systemTypes processTypes endTypes
-elementOctets n = octetsIn (pointTypes ++ (systemTypes ++ (processTypes ++ endTypes))) n
+elementOctets n = octetsIn namedTypes n
 
 -- What a type is.
 unfoldable pub classOf : ℕ → Class
-unfolding pointTypes systemTypes processTypes endTypes
 classOf n =
     pick (listed pointTypes n) Point (pick (listed systemTypes n) System (pick (listed processTypes n) Process (pick (listed endTypes n) EndOfInitialization Unknown)))
 
@@ -67,9 +68,25 @@ classOf n =
 abbrev pub standardLimit : ℕ
 standardLimit = 253
 
+-- The control octets of an APDU, which stand before its ASDU.
+abbrev pub controlOctets : ℕ
+controlOctets = 4
+
+-- The octets of an ASDU before its first object.
+abbrev pub headerOctets : ℕ
+headerOctets = 6
+
+-- The octets of an object's address.
+abbrev pub addressOctets : ℕ
+addressOctets = 3
+
+-- The most objects that an ASDU's count can say.
+abbrev pub countLimit : ℕ
+countLimit = 127
+
 -- Most objects in one ASDU under the length limit L: (L − 10) divided by (3 + element octets), rounded down, at most 127.
 abbrev pub mostObjects : ℕ → ℕ → ℕ
-mostObjects limit element = min ((limit - 10) / (3 + element)) 127
+mostObjects limit element = min ((limit - (controlOctets + headerOctets)) / (addressOctets + element)) countLimit
 
 -- How many ASDUs a run of n objects fills, at most `most` in each: none for no object.
 abbrev pub asdusOf : ℕ → ℕ → ℕ
@@ -77,4 +94,27 @@ asdusOf most n = (n + (most - 1)) / most
 
 -- The octets of a run of n objects: 6 for each ASDU, and 3 + element for each object.
 abbrev pub runOctets : ℕ → ℕ → ℕ → ℕ
-runOctets limit element n = 6 * asdusOf (mostObjects limit element) n + n * (3 + element)
+runOctets limit element n = headerOctets * asdusOf (mostObjects limit element) n + n * (addressOctets + element)
+
+-- A function's values at i, i + 1, .. as a list of n.
+unfoldable pub valuesFrom : (ℕ → ℕ) → ℕ → ℕ → List ℕ
+valuesFrom f i zero = []
+valuesFrom f i (suc n) = f i ∷ valuesFrom f (suc i) n
+
+-- The point's element octets of types 0 to 40, the last point type.
+unfoldable pub pointSizes : List ℕ
+pointSizes = valuesFrom pointOctets 0 41
+
+-- ---- as the code reads
+
+-- A class as the code's table has it.
+unfoldable pub classNumber : Class → ℕ
+classNumber Unknown = 0
+classNumber Point = 1
+classNumber System = 2
+classNumber Process = 3
+classNumber EndOfInitialization = 4
+
+-- A type's entry in the code's table: the class in the high four bits, the element octets in the low four.
+unfoldable pub kindCode : ℕ → ℕ
+kindCode n = 16 * classNumber (classOf n) + elementOctets n
