@@ -6,7 +6,7 @@ use mathlib.Core.Bool.{Bool, true, false, not}
 use lib.ListN.{length}
 use lib.Dec.{leb, eqb}
 use Rattle.limits.specs.Test.{_&_, pick}
-use Rattle.limits.specs.Size.{classOf, elementOctets}
+use Rattle.limits.specs.Size.{classOf, elementOctets, headerOctets, addressOctets}
 use Rattle.limits.specs.declared.size.Class.{Class}
 use Rattle.limits.specs.declared.size.Class.the-variants.{Point, System, Process, EndOfInitialization, Unknown}
 use Rattle.limits.specs.declared.outcome.Outcome.{Outcome}
@@ -19,7 +19,7 @@ use Rattle.asdu.specs.declared.command.Reading.{Reading}
 use Rattle.asdu.specs.declared.command.Reading.the-variants.{LengthOutOfRange, TypeNotServed, ObjectsNotWhole, Parsed}
 use Rattle.asdu.specs.declared.command.FirstObject.{FirstObject}
 use Rattle.asdu.specs.declared.command.FirstObject.the-variants.{Object, None}
-use Rattle.asdu.specs.Header.{headerOctets, addressOctets, mostOctets, kindIn, countIn, sequenceIn, causeIn, testIn, originatorIn, caIn}
+use Rattle.asdu.specs.Header.{mostOctets, kindIn, countIn, sequenceIn, causeIn, testIn, originatorIn, caIn}
 
 abbrev pub isSystem : Class → Bool
 isSystem Point = false

@@ -4,9 +4,10 @@ use Prim.Native.Nat.{ℕ, _+_}
 use mathlib.Core.List.{List}
 use mathlib.Core.Bool.{Bool}
 use lib.ListN.{take, drop}
+use Rattle.limits.specs.Size.{headerOctets, addressOctets}
 use Rattle.asdu.specs.declared.header.Header.{Header}
 use Rattle.asdu.specs.declared.command.Command.{Command}
-use Rattle.asdu.specs.Header.{headerOctets, addressOctets, asdu}
+use Rattle.asdu.specs.Header.{asdu}
 
 -- The header of an answer to a command, with a type and a count of its own.
 abbrev pub replyTo : Command → ℕ → ℕ → ℕ → Bool → Header

@@ -1,16 +1,12 @@
 // The six octets before the objects, an object, and an ASDU made of both.
+use limits::size::ADDRESS_OCTETS;
+use limits::size::HEADER_OCTETS;
 ghost use mathlib.Core.Path.{_≡_};
 ghost use Prim.Native.Nat.{_+_, _≤_, _<_};
 ghost use lib.ListN.{length};
 ghost use Rattle.limits.specs.Test.{pick};
 ghost use Rattle.octets.specs.Over.{over};
 ghost use Rattle.asdu.specs.Header.{header, object, asdu};
-
-// The octets of a header.
-pub const ASDU_HEADER_SIZE: usize = 6;
-
-// The octets of an information object address.
-pub const ADDRESS_SIZE: usize = 3;
 
 // The common address that means every station.
 pub const GLOBAL_COMMON_ADDRESS: u16 = 65535;
@@ -55,7 +51,7 @@ pub fn put_header(out: &mut [u8], h: Header) -> usize
 {
     let octets = header_octets(h);
     octets::copy_in(&octets, out, 0);
-    ASDU_HEADER_SIZE
+    HEADER_OCTETS
 }
 
 // Writes an object at the front of `out`.
@@ -64,8 +60,8 @@ pub fn put_object(out: &mut [u8], ioa: usize, element: &[u8]) -> usize
     ensures { λ r. ⌜ (r ≡ length (object ioa (now (element .entry)))) × (now (out .exit) ≡ over (now (out .entry)) 0 (object ioa (now (element .entry)))) ⌝ }
 {
     octets::put_three(out, 0, ioa);
-    octets::copy_in(element, out, ADDRESS_SIZE);
-    ADDRESS_SIZE + element.len()
+    octets::copy_in(element, out, ADDRESS_OCTETS);
+    ADDRESS_OCTETS + element.len()
 }
 
 // Writes a header and the octets of its objects at the front of `out`.
@@ -74,6 +70,6 @@ pub fn put_asdu(out: &mut [u8], h: Header, objects: &[u8]) -> usize
     ensures { λ r. ⌜ (r ≡ length (asdu h (now (objects .entry)))) × (now (out .exit) ≡ over (now (out .entry)) 0 (asdu h (now (objects .entry)))) ⌝ }
 {
     put_header(out, h);
-    octets::copy_in(objects, out, ASDU_HEADER_SIZE);
-    ASDU_HEADER_SIZE + objects.len()
+    octets::copy_in(objects, out, HEADER_OCTETS);
+    HEADER_OCTETS + objects.len()
 }
