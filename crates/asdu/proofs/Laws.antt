@@ -1,11 +1,10 @@
 -- The octets of an ASDU: how many they are, and that the fields of a header that was written are read back. Assumes nothing.
 use mathlib.Core.Path.{_≡_, refl, sym, ap, _∙_}
 use mathlib.Core.List.{List, _∷_, _++_}
-use Prim.Native.Nat.{ℕ, _+_, _≤_, _<_}
+use Prim.Native.Nat.{ℕ, _+_, _-_, _≤_, _<_}
 use native.Mathlib.Omega.{arith}
-use lib.ListN.{length, length-append}
-use Rattle.octets.specs.Over.{over}
-use Rattle.octets.proofs.Laws.{over-over}
+use lib.ListN.{length, take, drop, length-drop}
+use lib.Seq.{take-all}
 use Rattle.asdu.specs.declared.header.Header.{Header}
 use Rattle.asdu.specs.Header.{header, object, asdu}
 
@@ -22,3 +21,7 @@ length-object ioa element = omega arith
 pub length-asdu : (h : Header) (objects : List ℕ) → length (asdu h objects) ≡ 6 + length objects
 unfolding asdu header
 length-asdu h objects = omega arith
+
+-- all that lies from `from` on, as a part that is lent has it
+pub lent-rest : (m : List ℕ) (from : ℕ) → take (length m - from) (drop from m) ≡ drop from m
+lent-rest m from = take-all (length m - from) (drop from m) (simp length-drop (omega arith))

@@ -1,49 +1,65 @@
+-- Each return computes `readAs` by the tests that led there; a length that passed leaves six octets to read.
 use borrow.Author.Needs.{needs}
+use mathlib.Core.Path.{sym, ap, _∙_}
+use denote.Ref.{now}
+use lib.ListN.{length}
+use borrow.Author.Tests.{not-true, not-false}
+use Rattle.asdu.specs.declared.command.Reading.the-variants.{Parsed}
+use Rattle.asdu.specs.Command.{readAs}
+use Rattle.asdu.proofs.Reading.{header-there}
 use native.Mathlib.Omega.{arith}
 use Rattle.asdu.proofs.command.parse.Statement.{statement}
 use Rattle.asdu.proofs.command.parse.Tie as tie
-use Rattle.asdu.proofs.command.parse.Reads as reads
-use Rattle.asdu.proofs.command.parse.Lts as lts
-use Rattle.asdu.proofs.command.command_in.Reads as command-in-reads
-use Rattle.asdu.proofs.command.has_whole_objects.Reads as has-whole-objects-reads
-use Rattle.asdu.proofs.command.is_length.Reads as is-length-reads
-use Rattle.asdu.proofs.command.is_served.Reads as is-served-reads
 
--- src/command.rt:127:9
 is-length-requires : tie.Need-is-length-requires
 is-length-requires c κs = search needs
 
--- src/command.rt:128:9
 returns : tie.Need-returns
-returns c = search needs
+unfolding readAs
+returns c =
+    let L = sym (c .before .is-length .ensures) ∙ not-true _ (c .if1 .taken) in
+    simp L
 
--- src/command.rt:130:26
 shared-slice-read-is-served : tie.Need-shared-slice-read-is-served
-shared-slice-read-is-served c = search needs
+shared-slice-read-is-served c =
+    let h = header-there (c .before .before .before .before .args .limit) (length (now (c .before .before .before .before .args .asdu))) (sym (c .before .before .is-length .ensures) ∙ not-false _ (c .before .if1 .left)) in
+    omega arith
 
--- src/command.rt:130:9
 is-served-requires : tie.Need-is-served-requires
 is-served-requires c κs = search needs
 
--- src/command.rt:131:9
 returns-2 : tie.Need-returns-2
-returns-2 c = search needs
+unfolding readAs
+returns-2 c =
+    let L = sym (c .before .before .before .before .is-length .ensures) ∙ not-false _ (c .before .before .before .if1 .left) in
+    let S = sym (c .before .is-served .ensures) ∙ not-true _ (c .if2 .taken) in
+    simp (L, S)
 
--- src/command.rt:133:9
 has-whole-objects-requires : tie.Need-has-whole-objects-requires
-has-whole-objects-requires c κs = search needs
+has-whole-objects-requires c κs =
+    let h = header-there (c .before .before .before .before .before .before .args .limit) (length (now (c .before .before .before .before .before .before .args .asdu))) (sym (c .before .before .before .before .is-length .ensures) ∙ not-false _ (c .before .before .before .if1 .left)) in
+    omega arith
 
--- src/command.rt:134:9
 returns-3 : tie.Need-returns-3
-returns-3 c = search needs
+unfolding readAs
+returns-3 c =
+    let L = sym (c .before .before .before .before .before .before .is-length .ensures) ∙ not-false _ (c .before .before .before .before .before .if1 .left) in
+    let S = sym (c .before .before .before .is-served .ensures) ∙ not-false _ (c .before .before .if2 .left) in
+    let W = sym (c .before .has-whole-objects .ensures) ∙ not-true _ (c .if3 .taken) in
+    simp (L, S, W)
 
--- src/command.rt:136:21
 command-in-requires : tie.Need-command-in-requires
-command-in-requires c κs = search needs
+command-in-requires c κs =
+    let h = header-there (c .before .before .before .before .before .before .before .before .args .limit) (length (now (c .before .before .before .before .before .before .before .before .args .asdu))) (sym (c .before .before .before .before .before .before .is-length .ensures) ∙ not-false _ (c .before .before .before .before .before .if1 .left)) in
+    omega arith
 
--- src/command.rt:124:1
 returns-4 : tie.Need-returns-4
-returns-4 c = search needs
+unfolding readAs
+returns-4 c =
+    let L = sym (c .before .before .before .before .before .before .before .is-length .ensures) ∙ not-false _ (c .before .before .before .before .before .before .if1 .left) in
+    let S = sym (c .before .before .before .before .is-served .ensures) ∙ not-false _ (c .before .before .before .if2 .left) in
+    let W = sym (c .before .before .has-whole-objects .ensures) ∙ not-false _ (c .before .if3 .left) in
+    simp (L, S, W) (ap Parsed (c .command-in .ensures))
 
 pub parse-spec : {M : Type 1} → statement M
 parse-spec =

@@ -1,47 +1,54 @@
+-- The header is the one of `replyTo`, and the part that is lent the first object.
 use borrow.Author.Needs.{needs}
+use mathlib.Core.Path.{_≡_, sym, subst}
+use Prim.Native.Nat.{_+_, _-_, _≤_, _<_}
+use denote.Ref.{now}
+use lib.ListN.{length, take, drop}
+use Rattle.asdu.specs.declared.header.Header.{Header}
+use Rattle.asdu.specs.Header.{asdu}
+use Rattle.asdu.specs.Confirmation.{confirmation}
 use native.Mathlib.Omega.{arith}
 use Rattle.asdu.proofs.confirmation.put_confirmation.Statement.{statement}
 use Rattle.asdu.proofs.confirmation.put_confirmation.Tie as tie
-use Rattle.asdu.proofs.confirmation.put_confirmation.Reads as reads
-use Rattle.asdu.proofs.confirmation.put_confirmation.Lts as lts
-use Rattle.asdu.proofs.confirmation.reply_header.Reads as reply-header-reads
-use Rattle.asdu.proofs.header.put_asdu.Reads as put-asdu-reads
 
--- src/confirmation.rt:43:24
 add-end : tie.Need-add-end
 add-end c = search needs
 
--- src/confirmation.rt:43:15
 add-end-2 : tie.Need-add-end-2
 add-end-2 c = search needs
 
--- src/confirmation.rt:44:9
 reply-header-requires : tie.Need-reply-header-requires
 reply-header-requires c κs = search needs
 
--- src/confirmation.rt:45:30
 sub-put-asdu : tie.Need-sub-put-asdu
 sub-put-asdu c = search needs
 
--- src/confirmation.rt:45:30
 part-put-asdu-start : tie.Need-part-put-asdu-start
 part-put-asdu-start c = search needs
 
--- src/confirmation.rt:45:30
 part-put-asdu-end : tie.Need-part-put-asdu-end
 part-put-asdu-end c = search needs
 
--- src/confirmation.rt:45:5
 put-asdu-requires : tie.Need-put-asdu-requires
-put-asdu-requires c κs = search needs
+unfolding confirmation
+put-asdu-requires c κs =
+    let a = c .before .before .before .before .before .before .args in
+    let h = c .before .before .reply-header .ensures in
+    let n : 6 + (3 + a .command .element) - 6 ≡ 3 + a .command .element = omega arith in
+    subst (λ (h : Header). (h .cause < 64) × (length (asdu h (take (6 + (3 + a .command .element) - 6) (drop 6 (now (a .asdu))))) ≤ length (now (a .out)))) (sym h)
+    (c .before .before .before .before .before .before .pre .0, rw n (c .before .before .before .before .before .before .pre .2))
 
--- src/confirmation.rt:38:1
 same-length : tie.Need-same-length
 same-length c = search needs
 
--- src/confirmation.rt:38:1
 returns : tie.Need-returns
-returns c = search needs
+unfolding confirmation
+returns c =
+    let a = c .before .before .before .before .before .before .before .before .before .args in
+    let h = c .before .before .before .before .before .reply-header .ensures in
+    let n : 6 + (3 + a .command .element) - 6 ≡ 3 + a .command .element = omega arith in
+    let p = c .before .before .put-asdu .ensures in
+    (cc, cc)
 
 pub put-confirmation-spec : {M : Type 1} → statement M
 put-confirmation-spec =

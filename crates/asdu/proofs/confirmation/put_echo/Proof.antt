@@ -1,39 +1,49 @@
+-- The header is the one of `replyTo`, and the part that is lent all octets after the command's own header.
 use borrow.Author.Needs.{needs}
+use mathlib.Core.Path.{sym, subst}
+use Prim.Native.Nat.{_-_, _≤_, _<_}
+use denote.Ref.{now}
+use lib.ListN.{length, take, drop}
+use Rattle.asdu.specs.declared.header.Header.{Header}
+use Rattle.asdu.specs.Header.{asdu}
+use Rattle.asdu.specs.Confirmation.{echo}
+use Rattle.asdu.proofs.Laws.{lent-rest}
 use native.Mathlib.Omega.{arith}
 use Rattle.asdu.proofs.confirmation.put_echo.Statement.{statement}
 use Rattle.asdu.proofs.confirmation.put_echo.Tie as tie
-use Rattle.asdu.proofs.confirmation.put_echo.Reads as reads
-use Rattle.asdu.proofs.confirmation.put_echo.Lts as lts
-use Rattle.asdu.proofs.confirmation.reply_header.Reads as reply-header-reads
-use Rattle.asdu.proofs.header.put_asdu.Reads as put-asdu-reads
 
--- src/confirmation.rt:54:9
 reply-header-requires : tie.Need-reply-header-requires
 reply-header-requires c κs = search needs
 
--- src/confirmation.rt:55:30
 sub-put-asdu : tie.Need-sub-put-asdu
 sub-put-asdu c = search needs
 
--- src/confirmation.rt:55:30
 part-put-asdu-start : tie.Need-part-put-asdu-start
 part-put-asdu-start c = search needs
 
--- src/confirmation.rt:55:30
 part-put-asdu-end : tie.Need-part-put-asdu-end
 part-put-asdu-end c = search needs
 
--- src/confirmation.rt:55:5
 put-asdu-requires : tie.Need-put-asdu-requires
-put-asdu-requires c κs = search needs
+unfolding echo
+put-asdu-requires c κs =
+    let a = c .before .before .before .before .before .args in
+    let h = c .before .before .reply-header .ensures in
+    let n = lent-rest (now (a .asdu)) 6 in
+    subst (λ (h : Header). (h .cause < 64) × (length (asdu h (take (length (now (a .asdu)) - 6) (drop 6 (now (a .asdu))))) ≤ length (now (a .out)))) (sym h)
+    (c .before .before .before .before .before .pre .0, rw n (c .before .before .before .before .before .pre .2))
 
--- src/confirmation.rt:49:1
 same-length : tie.Need-same-length
 same-length c = search needs
 
--- src/confirmation.rt:49:1
 returns : tie.Need-returns
-returns c = search needs
+unfolding echo
+returns c =
+    let a = c .before .before .before .before .before .before .before .before .args in
+    let h = c .before .before .before .before .before .reply-header .ensures in
+    let n = lent-rest (now (a .asdu)) 6 in
+    let p = c .before .before .put-asdu .ensures in
+    (cc, cc)
 
 pub put-echo-spec : {M : Type 1} → statement M
 put-echo-spec =

@@ -1,27 +1,35 @@
+-- The header is the one of `replyTo`.
 use borrow.Author.Needs.{needs}
+use mathlib.Core.Path.{sym, subst}
+use Prim.Native.Nat.{_≤_, _<_}
+use denote.Ref.{now}
+use lib.ListN.{length}
+use Rattle.asdu.specs.declared.header.Header.{Header}
+use Rattle.asdu.specs.Header.{asdu}
+use Rattle.asdu.specs.Confirmation.{reply}
 use native.Mathlib.Omega.{arith}
 use Rattle.asdu.proofs.confirmation.put_reply.Statement.{statement}
 use Rattle.asdu.proofs.confirmation.put_reply.Tie as tie
-use Rattle.asdu.proofs.confirmation.put_reply.Reads as reads
-use Rattle.asdu.proofs.confirmation.put_reply.Lts as lts
-use Rattle.asdu.proofs.confirmation.reply_header.Reads as reply-header-reads
-use Rattle.asdu.proofs.header.put_asdu.Reads as put-asdu-reads
 
--- src/confirmation.rt:33:9
 reply-header-requires : tie.Need-reply-header-requires
 reply-header-requires c κs = search needs
 
--- src/confirmation.rt:34:5
 put-asdu-requires : tie.Need-put-asdu-requires
-put-asdu-requires c κs = search needs
+unfolding reply
+put-asdu-requires c κs =
+    let a = c .before .before .before .before .args in
+    let h = c .before .reply-header .ensures in
+    subst (λ (h : Header). (h .cause < 64) × (length (asdu h (now (a .objects))) ≤ length (now (a .out)))) (sym h) (c .before .before .before .before .pre)
 
--- src/confirmation.rt:29:1
 same-length : tie.Need-same-length
 same-length c = search needs
 
--- src/confirmation.rt:29:1
 returns : tie.Need-returns
-returns c = search needs
+unfolding reply
+returns c =
+    let h = c .before .before .before .before .reply-header .ensures in
+    let p = c .before .before .put-asdu .ensures in
+    (cc, cc)
 
 pub put-reply-spec : {M : Type 1} → statement M
 put-reply-spec = tie.close (tie.spec reply-header-requires put-asdu-requires same-length returns)
