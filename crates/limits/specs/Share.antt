@@ -43,6 +43,10 @@ admissionNumber NoRoom = 20
 abbrev pub freeOf : ℕ → List Share → ℕ
 freeOf k ss = k - total heldOf ss
 
+-- What the rule answers to a station s of a gateway with capacity K and these shares.
+abbrev pub admissionIn : ℕ → List Share → Share → Admission
+admissionIn k ss s = admissionOf s (freeOf k ss) (total unmetOf ss)
+
 -- No station is above its ceiling.
 unfoldable pub withinCeilings : List Share → Type 0
 withinCeilings [] = Unit

@@ -1,0 +1,4 @@
+pub mod Effects
+pub mod Requests
+pub mod Batches
+pub mod Histories

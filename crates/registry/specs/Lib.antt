@@ -1,0 +1,4 @@
+pub mod Effect
+pub mod Registry
+pub mod Opening
+pub mod History
