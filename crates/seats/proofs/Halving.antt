@@ -140,7 +140,7 @@ over-seek m at ioa low (suc n) i r h k =
     by-test false e zero h k later again = absurd (omega arith)
     by-test false e (suc i) h k later again = let f = ioa-next m at i in let ih = again i (omega arith) (omega arith) in omega arith
 
-seek-le : (ioa : ℕ) (ps : List Point) → seekIn ioa ps ≤ length ps
+pub seek-le : (ioa : ℕ) (ps : List Point) → seekIn ioa ps ≤ length ps
 unfolding seekIn
 seek-le ioa [] = omega arith
 seek-le ioa (q ∷ qs) = by-test (leb ioa (q .ioa)) (seek-le ioa qs)

@@ -4,7 +4,8 @@ ghost use mathlib.Core.Path.{_≡_};
 ghost use Prim.Native.Nat.{_+_, _*_, _-_, _≤_, _<_};
 ghost use lib.ListN.{length};
 ghost use Rattle.octets.specs.Number.{two};
-ghost use Rattle.wellformed.specs.Station.{shareAt};
+ghost use Rattle.model.specs.Limits.{placeLimits};
+ghost use Rattle.wellformed.specs.Station.{shareAt, placesAt};
 ghost use Rattle.table.specs.Table.{numbersOk, sharesOk};
 ghost use Rattle.table.specs.Memory.{sumAt, reservedAt, heldAt, unmetAt, planAt, bodiesAt, markAt, headAt, sharesAt, wellFormed};
 
@@ -184,4 +185,55 @@ fn plan_and_shares(m: &[u8], k: usize, sb: usize, n: usize, points: usize) -> bo
         return false;
     }
     shares_ok(k, s.reserved, points, s.unmet)
+}
+
+// ---- the places
+
+// Each station's places, station after station from 64 on. `limits` are those of `place_limits`.
+fn bodies_ok(m: &[u8], at: usize, n: usize, limits: &[usize; 123]) -> bool
+    requires { ⌜ (at + 8 * n ≤ length (now m)) × (64 + 48 * sumAt heldAt (now m) at n ≤ length (now m)) × (now limits ≡ placeLimits) ⌝ }
+    ensures { λ r. ⌜ r ≡ bodiesAt (now (m .entry)) 64 at n ⌝ }
+{
+    let mut pb = 64;
+    let mut sb = at;
+    let mut left = n;
+    while 0 < left {
+        let ca = octets::two_at(m, sb);
+        let h = octets::two_at(m, sb + 6);
+        if !model::places_ok(m, pb, ca, h, limits) {
+            return false;
+        }
+        pb += 48 * h;
+        sb += 8;
+        left -= 1;
+    }
+    true
+}
+
+// The places of n stations and the unused places after them.
+fn places_and_unused(m: &[u8], k: usize, n: usize, points: usize) -> bool
+    requires { ⌜ (64 + 48 * k + 8 * n ≤ length (now m)) × (points ≤ k) × (points ≡ sumAt heldAt (now m) (64 + 48 * k) n) ⌝ }
+    ensures { λ r. ⌜ r ≡ placesAt (now (m .entry)) k n points ⌝ }
+{
+    let limits = model::place_limits();
+    if !bodies_ok(m, 64 + 48 * k, n, &limits) {
+        return false;
+    }
+    octets::all_zero(m, 64 + 48 * points, 48 * (k - points))
+}
+
+// Does the memory hold a well-formed table?
+pub fn well_formed(m: &[u8]) -> bool
+    ensures { λ r. ⌜ r ≡ wellFormed (now (m .entry)) ⌝ }
+{
+    if !head_ok(m) {
+        return false;
+    }
+    let k = octets::two_at(m, 4);
+    let n = octets::two_at(m, 6);
+    let points = octets::two_at(m, 8);
+    if !plan_and_shares(m, k, 64 + 48 * k, n, points) {
+        return false;
+    }
+    places_and_unused(m, k, n, points)
 }
