@@ -39,7 +39,7 @@ admitted-room t ca s g w a =
     let A : List Share = map shareOf (w .after) in
     let e : map shareOf (t .stations) ≡ B ++ (shareOf s ∷ A) = ap (map shareOf) (w .split) ∙ shares-split (w .before) s (w .after) in
     let place : total heldOf (B ++ (shareOf s ∷ A)) < k =
-      admitted-has-place k B (shareOf s) A (subst (Sound k) e (good-sound t g)) (ap (λ (l : List Share). admissionIn k l (shareOf s)) (sym e) ∙ a) in
+    admitted-has-place k B (shareOf s) A (subst (Sound k) e (good-sound t g)) (ap (λ (l : List Share). admissionIn k l (shareOf s)) (sym e) ∙ a) in
     let h : total held (t .stations) ≡ total heldOf (B ++ (shareOf s ∷ A)) = sym (total-held (t .stations)) ∙ ap (total heldOf) e in
     omega arith
 
@@ -51,6 +51,7 @@ pub record Absent (m : List ℕ) (ca ioa i h at : ℕ) : Type 0 where
   pub not-known : known ioa (station .points) ≡ false
   pub stands : Standing (tableOf m .stations) ca ioa station found i h at
 
+-- A point that the code does not find is not registered.
 pub absent-law : (m : List ℕ) (ca ioa i first h at : ℕ) → Octets m → wellFormed m ≡ true → seatAt m ca ≡ Here i first h → findAt m first h ioa ≡ Missing at
     → Absent m ca ioa i h at
 absent-law m ca ioa i first h at o w es ef =
@@ -74,6 +75,7 @@ pub record PutIn (m : List ℕ) (ca : ℕ) (p : Point) (i h at : ℕ) : Type 0 w
   pub is-good : Good (added (tableOf m) ca p)
   pub is-parsed : parse (placed m ca p i h at) ≡ some (added (tableOf m) ca p)
 
+-- An admitted point put in leaves the good table with it, and that table is read back.
 pub insert-law : (m : List ℕ) (ca : ℕ) (p : Point) (i h at : ℕ) → Octets m → wellFormed m ≡ true → (a : Absent m ca (p .ioa) i h at) → pointOk p ≡ true
     → admissionIn (tableOf m .capacity) (map shareOf (tableOf m .stations)) (shareOf (a .station)) ≡ Admitted → PutIn m ca p i h at
 insert-law m ca p i h at o w a ok admit =

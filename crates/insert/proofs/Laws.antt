@@ -43,7 +43,7 @@ put-at H B P Q D N Z E S T R L T′ from to at ef et en el ea eT =
     let la : length A ≡ at = simp length-append (omega arith) in
     let e : H ++ (B ++ ((P ++ Q) ++ (D ++ ((N ++ Z) ++ (E ++ ((S ++ T) ++ R)))))) ≡ X ++ (Y ++ (N ++ W)) = simp append-assoc in
     let f : over (shifted (X ++ (Y ++ (N ++ W))) from to 48) from L ≡ X ++ (L ++ (Y ++ W)) =
-      rw (shifted-at X Y N W from to 48 lx ly en) (over-at X (take 48 (Y ++ N)) (Y ++ W) L from lx lt) in
+    rw (shifted-at X Y N W from to 48 lx ly en) (over-at X (take 48 (Y ++ N)) (Y ++ W) L from lx lt) in
     let g : X ++ (L ++ (Y ++ W)) ≡ A ++ (T ++ R) = simp append-assoc in
     ap (λ (l : List ℕ). over (over (shifted l from to 48) from L) at T′) e
     ∙ ap (λ (l : List ℕ). over l at T′) (f ∙ g)
@@ -71,9 +71,9 @@ module _ (k : ℕ) (before : List Station) (s : Station) (after : List Station) 
       let F : List ℕ = eight (s .ca) (s .reservation) (s .ceiling) (held s) in
       let f : 48 * (k - n) ≡ 48 + 48 * (k - (n + 1)) = omega arith in
       let z : replicate {A = ℕ} (48 * (k - n)) 0 ≡ replicate 48 0 ++ replicate (48 * (k - (n + 1))) 0 =
-        ap (λ (x : ℕ). replicate {A = ℕ} x 0) f ∙ sym (replicate-append-replicate 48 (48 * (k - (n + 1))) 0) in
+      ap (λ (x : ℕ). replicate {A = ℕ} x 0) f ∙ sym (replicate-append-replicate 48 (48 * (k - (n + 1))) 0) in
       let ps : placesOf (s .ca) (s .points) ≡ placesOf (s .ca) below ++ placesOf (s .ca) above =
-        ap (placesOf (s .ca)) (sym (take-append-drop (seekIn (p .ioa) (s .points)) (s .points))) ∙ places-append (s .ca) below above in
+      ap (placesOf (s .ca)) (sym (take-append-drop (seekIn (p .ioa) (s .points)) (s .points))) ∙ places-append (s .ca) below above in
       image-at k before s after n rest count
       ∙ (λ j. head k S n ++ (bodies before ++ (ps j ++ (bodies after ++ (z j ++ (entries before ++ (F ++ (entries after ++ rest))))))))
 
@@ -90,10 +90,10 @@ module _ (k : ℕ) (before : List Station) (s : Station) (after : List Station) 
       let a : total held (before ++ (s ∷ after)) ≡ total held before + (held s + total held after) = held-at before s after in
       let b : total held (before ++ (s′ ∷ after)) ≡ total held before + (length (insertIn p (s .points)) + total held after) = held-at before s′ after in
       let ps : placesOf (s .ca) (insertIn p (s .points)) ≡ placesOf (s .ca) below ++ (placeOf (s .ca) p ++ placesOf (s .ca) above) =
-        places-at (s .ca) below p above in
+      places-at (s .ca) below p above in
       image-at k before s′ after (n + 1) rest (omega arith)
       ∙ (λ j. head k S (n + 1) ++ (bodies before ++ (ps j ++ (bodies after ++ (replicate (48 * (k - (n + 1))) 0
-        ++ (entries before ++ (eight (s .ca) (s .reservation) (s .ceiling) (h j) ++ (entries after ++ rest))))))))
+      ++ (entries before ++ (eight (s .ca) (s .reservation) (s .ceiling) (h j) ++ (entries after ++ rest))))))))
 
   placed-cut : (at : ℕ) → at ≡ 64 + 48 * (total held before + seekIn (p .ioa) (s .points))
       → over (over (putIn (image (record { capacity = k; stations = before ++ (s ∷ after) }) ++ rest) at (64 + 48 * n) (placeOf (s .ca) p))
@@ -117,7 +117,7 @@ module _ (k : ℕ) (before : List Station) (s : Station) (after : List Station) 
       let lp : length P ≡ 48 * j = length-places (s .ca) below ∙ ap (λ (x : ℕ). 48 * x) (length-take-le j (s .points) hj) in
       let lq : length Q ≡ 48 * (held s - j) = length-places (s .ca) above ∙ ap (λ (x : ℕ). 48 * x) (length-drop j (s .points)) in
       let moved = put-at (head k S n) (bodies before) P Q (bodies after) (replicate 48 0) Z (entries before) six′ (pair (held s)) R
-        (placeOf (s .ca) p) (pair (held s + 1)) at (64 + 48 * n) (64 + 48 * k + 8 * length before + 6) (omega arith) (omega arith) refl refl (omega arith) refl in
+      (placeOf (s .ca) p) (pair (held s + 1)) at (64 + 48 * n) (64 + 48 * k + 8 * length before + 6) (omega arith) (omega arith) refl refl (omega arith) refl in
       ap (λ (l : List ℕ). over (over (putIn l at (64 + 48 * n) (placeOf (s .ca) p)) (64 + 48 * k + 8 * length before + 6) (pair (held s + 1))) 8 (pair (n + 1))) cut
       ∙ ap (λ (l : List ℕ). over l 8 (pair (n + 1))) moved
       ∙ head-over k S n (n + 1) (bodies before ++ ((P ++ (placeOf (s .ca) p ++ Q)) ++ (bodies after ++ (Z ++ (entries before ++ ((six′ ++ pair (held s + 1)) ++ R))))))

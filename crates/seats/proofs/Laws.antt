@@ -39,6 +39,7 @@ seat-is m ca i pb sb (suc n) =
     let e : length (pointsAt m pb (two m (sb + 6))) ≡ two m (sb + 6) = length-pointsAt m pb (two m (sb + 6)) in
     rw e (ap (λ (r : Seat). pick (eqb (two m sb) ca) (Here i pb (two m (sb + 6))) r) (seat-is m ca (i + 1) (pb + 48 * two m (sb + 6)) (sb + 8) n))
 
+-- The seat read from memory is the seat in the table that the memory holds.
 pub seat-of : (m : List ℕ) (ca : ℕ) → seatAt m ca ≡ seatOf ca 0 64 (tableOf m .stations)
 unfolding seatAt tableOf
 seat-of m ca = seat-is m ca 0 64 (64 + 48 * two m 4) (two m 6)
@@ -132,6 +133,7 @@ pub record Seen (m : List ℕ) (ca i first h : ℕ) : Type 0 where
   pub places : first + 48 * h ≤ 64 + 48 * two m 8
   pub stations : i < two m 6
 
+-- A seat found in a well-formed memory.
 pub seat-law : (m : List ℕ) (ca i first h : ℕ) → Octets m → wellFormed m ≡ true → seatAt m ca ≡ Here i first h → Seen m ca i first h
 seat-law m ca i first h o w e =
     let gl = holds m o w in

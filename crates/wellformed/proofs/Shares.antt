@@ -40,9 +40,10 @@ share-law m ca s w = share-split m 64 (64 + 48 * two m 4) (two m 6) (w .before) 
 pub sums-law : (m : List ℕ) → (sumAt heldAt m (64 + 48 * two m 4) (two m 6) ≡ total heldOf (map shareOf (tableOf m .stations)))
     × (sumAt unmetAt m (64 + 48 * two m 4) (two m 6) ≡ total unmetOf (map shareOf (tableOf m .stations)))
 unfolding tableOf
-sums-law m =
-    (sym (total-held (stationsAt m 64 (64 + 48 * two m 4) (two m 6)) ∙ sum-held m 64 (64 + 48 * two m 4) (two m 6)),
-    sym (total-unmet (stationsAt m 64 (64 + 48 * two m 4) (two m 6)) ∙ sum-unmet m 64 (64 + 48 * two m 4) (two m 6)))
+sums-law m = (
+  sym (total-held (stationsAt m 64 (64 + 48 * two m 4) (two m 6)) ∙ sum-held m 64 (64 + 48 * two m 4) (two m 6)),
+  sym (total-unmet (stationsAt m 64 (64 + 48 * two m 4) (two m 6)) ∙ sum-unmet m 64 (64 + 48 * two m 4) (two m 6)),
+)
 
 -- The share rule asked with what was read is the share rule asked of the table.
 pub admission-law : (m : List ℕ) (ca : ℕ) (s : Station) (w : Found ca (tableOf m .stations) s)

@@ -61,7 +61,7 @@ fn head_ok(m: &[u8]) -> bool
 // ---- the plan
 
 // CA from `low` to 65,534, r ≤ c ≤ K, held ≤ c.
-fn numbers_ok(k: usize, low: usize, ca: usize, r: usize, c: usize, h: usize) -> bool
+pub fn numbers_ok(k: usize, low: usize, ca: usize, r: usize, c: usize, h: usize) -> bool
     ensures { λ ok. ⌜ ok ≡ numbersOk k low ca r c h ⌝ }
 {
     if ca < low {
@@ -96,15 +96,15 @@ fn plan_ok(m: &[u8], k: usize, at: usize, n: usize) -> bool
     requires { ⌜ at + 8 * n ≤ length (now m) ⌝ }
     ensures { λ r. ⌜ r ≡ planAt (now (m .entry)) k 1 at n ⌝ }
 {
-    let mut sb = at;
+    let mut station = at;
     let mut low = 1;
     let mut left = n;
     while 0 < left {
-        if !station_ok(m, sb, k, low) {
+        if !station_ok(m, station, k, low) {
             return false;
         }
-        low = octets::two_at(m, sb) + 1;
-        sb += 8;
+        low = octets::two_at(m, station) + 1;
+        station += 8;
         left -= 1;
     }
     true
@@ -139,17 +139,17 @@ pub fn add_up(m: &[u8], at: usize, n: usize) -> Sums
     requires { ⌜ (at + 8 * n ≤ length (now m)) × (n ≤ 64) ⌝ }
     ensures { λ s. ⌜ (s .reserved ≡ sumAt reservedAt (now (m .entry)) at n) × (s .held ≡ sumAt heldAt (now (m .entry)) at n) × (s .unmet ≡ sumAt unmetAt (now (m .entry)) at n) ⌝ }
 {
-    let mut sb = at;
+    let mut station = at;
     let mut left = n;
     let mut reserved: usize = 0;
     let mut held: usize = 0;
     let mut unmet: usize = 0;
     while 0 < left {
-        let s = share_at(m, sb);
+        let s = share_at(m, station);
         reserved += s.reservation;
         held += s.held;
         unmet += s.unmet();
-        sb += 8;
+        station += 8;
         left -= 1;
     }
     Sums {
@@ -173,14 +173,14 @@ fn shares_ok(k: usize, r: usize, h: usize, u: usize) -> bool
 }
 
 // The stations' numbers, and the head's number of points.
-fn plan_and_shares(m: &[u8], k: usize, sb: usize, n: usize, points: usize) -> bool
-    requires { ⌜ (sb + 8 * n ≤ length (now m)) × (n ≤ 64) ⌝ }
-    ensures { λ r. ⌜ r ≡ sharesAt (now (m .entry)) k sb n points ⌝ }
+fn plan_and_shares(m: &[u8], k: usize, at: usize, n: usize, points: usize) -> bool
+    requires { ⌜ (at + 8 * n ≤ length (now m)) × (n ≤ 64) ⌝ }
+    ensures { λ r. ⌜ r ≡ sharesAt (now (m .entry)) k at n points ⌝ }
 {
-    if !plan_ok(m, k, sb, n) {
+    if !plan_ok(m, k, at, n) {
         return false;
     }
-    let s = add_up(m, sb, n);
+    let s = add_up(m, at, n);
     if points != s.held {
         return false;
     }
@@ -194,17 +194,17 @@ fn bodies_ok(m: &[u8], at: usize, n: usize, limits: &[usize; 123]) -> bool
     requires { ⌜ (at + 8 * n ≤ length (now m)) × (64 + 48 * sumAt heldAt (now m) at n ≤ length (now m)) × (now limits ≡ placeLimits) ⌝ }
     ensures { λ r. ⌜ r ≡ bodiesAt (now (m .entry)) 64 at n ⌝ }
 {
-    let mut pb = 64;
-    let mut sb = at;
+    let mut place = 64;
+    let mut station = at;
     let mut left = n;
     while 0 < left {
-        let ca = octets::two_at(m, sb);
-        let h = octets::two_at(m, sb + 6);
-        if !model::places_ok(m, pb, ca, h, limits) {
+        let ca = octets::two_at(m, station);
+        let h = octets::two_at(m, station + 6);
+        if !model::places_ok(m, place, ca, h, limits) {
             return false;
         }
-        pb += 48 * h;
-        sb += 8;
+        place += 48 * h;
+        station += 8;
         left -= 1;
     }
     true

@@ -9,66 +9,50 @@ use borrow.Author.Needs.{needs}
 use Rattle.insert.proofs.insert.Statement.{statement}
 use Rattle.insert.proofs.insert.Tie as tie
 
-
 two-at-requires : tie.Need-two-at-requires
 two-at-requires c κs = search needs
-
 
 two-at-requires-2 : tie.Need-two-at-requires-2
 two-at-requires-2 c κs = search needs
 
-
 mul-put-in : tie.Need-mul-put-in
 mul-put-in c = search needs
-
 
 add-put-in : tie.Need-add-put-in
 add-put-in c = search needs
 
-
 put-in-requires : tie.Need-put-in-requires
 put-in-requires c κs = search needs
-
 
 mul-put-two : tie.Need-mul-put-two
 mul-put-two c = search needs
 
-
 add-put-two : tie.Need-add-put-two
 add-put-two c = search needs
-
 
 mul-put-two-2 : tie.Need-mul-put-two-2
 mul-put-two-2 c = search needs
 
-
 add-put-two-2 : tie.Need-add-put-two-2
 add-put-two-2 c = search needs
-
 
 add-put-two-3 : tie.Need-add-put-two-3
 add-put-two-3 c = search needs
 
-
 add-put-two-4 : tie.Need-add-put-two-4
 add-put-two-4 c = search needs
-
 
 put-two-requires : tie.Need-put-two-requires
 put-two-requires c κs = search needs
 
-
 add-put-two-5 : tie.Need-add-put-two-5
 add-put-two-5 c = search needs
-
 
 put-two-requires-2 : tie.Need-put-two-requires-2
 put-two-requires-2 c κs = search needs
 
-
 same-length : tie.Need-same-length
 same-length c = search needs
-
 
 returns : tie.Need-returns
 unfolding placed

@@ -59,7 +59,7 @@ returns-2 c =
     let s = c .before .before .before .two-at2 .ensures .0 in
     let n = c .before .before .two-at3 .ensures .0 in
     let e : c .before .plan-and-shares .result ≡ sharesAt m (two m 4) (64 + 48 * two m 4) (two m 6) (two m 8) =
-      c .before .plan-and-shares .ensures ∙ (λ j. sharesAt m (k j) (64 + 48 * k j) (s j) (n j)) in
+    c .before .plan-and-shares .ensures ∙ (λ j. sharesAt m (k j) (64 + 48 * k j) (s j) (n j)) in
     simp (h, sym e ∙ not-true _ (c .if2 .taken))
 
 places-and-unused-requires : tie.Need-places-and-unused-requires
@@ -70,7 +70,7 @@ places-and-unused-requires c κs =
     let s = c .before .before .before .two-at2 .ensures .0 in
     let n = c .before .before .two-at3 .ensures .0 in
     let e : c .before .plan-and-shares .result ≡ sharesAt m (two m 4) (64 + 48 * two m 4) (two m 6) (two m 8) =
-      c .before .plan-and-shares .ensures ∙ (λ j. sharesAt m (k j) (64 + 48 * k j) (s j) (n j)) in
+    c .before .plan-and-shares .ensures ∙ (λ j. sharesAt m (k j) (64 + 48 * k j) (s j) (n j)) in
     let t = head-is m h in
     let q = shares-is _ _ _ _ _ (sym e ∙ not-false _ (c .if2 .left)) in
     (omega arith, omega arith, n ∙ q .count ∙ (λ j. sumAt heldAt m (64 + 48 * sym k j) (sym s j)))
@@ -84,7 +84,7 @@ returns-3 c =
     let s = c .before .before .before .before .two-at2 .ensures .0 in
     let n = c .before .before .before .two-at3 .ensures .0 in
     let e : c .before .before .plan-and-shares .result ≡ sharesAt m (two m 4) (64 + 48 * two m 4) (two m 6) (two m 8) =
-      c .before .before .plan-and-shares .ensures ∙ (λ j. sharesAt m (k j) (64 + 48 * k j) (s j) (n j)) in
+    c .before .before .plan-and-shares .ensures ∙ (λ j. sharesAt m (k j) (64 + 48 * k j) (s j) (n j)) in
     simp (h, sym e ∙ not-false _ (c .before .if2 .left)) (c .places-and-unused .ensures ∙ (λ j. placesAt m (k j) (s j) (n j)))
 
 pub well-formed-spec : {M : Type 1} → statement M
