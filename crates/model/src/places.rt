@@ -7,7 +7,7 @@ ghost use Rattle.model.specs.Place.{placeOk, placesOk};
 ghost use Rattle.model.specs.Limits.{placeLimits};
 
 // The types from 0 to the last that is a point's.
-const TYPES: usize = 41;
+const TYPES: usize = limits::size::POINT_KINDS_END;
 
 // What the first eight octets of a value, as a number, are at most, by the octets of its element.
 const FIRST: [usize; 13] = [
