@@ -159,10 +159,10 @@ class Machine:
         self.table[at] = octet
 
     def step_K(self):
-        self.kept[: self.table_length] = self.table[: self.table_length]
+        self.kept[:] = self.table
 
     def step_B(self):
-        self.table[: self.table_length] = self.kept[: self.table_length]
+        self.table[:] = self.kept
 
     # The steps that call.
 
