@@ -6,7 +6,7 @@ calls, and everything else that a line shows is calculated by gateway.py.
     python3 reference/make_registration.py
 """
 
-from gateway import COUNTER_TYPES, LARGEST_IOA, POINT_ELEMENT, low_first, record, table_octets
+from gateway import COUNTER_TYPES, LARGEST_IOA, POINT_ELEMENT, record, table_octets
 from script import Draw, Script
 
 # Twelve octets of which none is zero: what lies past an element must be kept as zero.
