@@ -27,6 +27,7 @@ def opening(s):
     for capacity in 1, 2, 4095, 4096:
         s.open(capacity, [7, 0, 0], expect=0)
         s.share(7, expect=0, free=capacity, unmet=0)
+    s.lend_table(table_octets(100, 64) + 500)
     # "A plan lists 1 to 64 stations"
     s.open(100, [], expect=10)
     for stations in 1, 2, 63, 64:
@@ -60,6 +61,7 @@ def opening(s):
     s.open(9, [1, 5, 9, 2, 5, 9], expect=10)
     s.open(9, [1, 3, 3, 2, 3, 3, 3, 3, 3], expect=0)
     s.open(9, [1, 3, 3, 2, 3, 3, 3, 4, 4], expect=10)
+    s.lend_table(table_octets(4096, 64))
     s.open(4096, spread(64, 64, 4096), expect=0)
     s.open(4096, spread(63, 64, 4096) + [100, 65, 65], expect=10)
     s.open(4096, spread(64, 1024, 1024), expect=10)

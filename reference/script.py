@@ -17,8 +17,8 @@ A step of a script is one letter and what follows it; numbers are low octet firs
     S length:4 fill:1      the same as T for the spontaneous memory
     C octets:8             set the clock: seven octets and the known flag
     P at:4 octet:1         set one octet of the table memory
-    K                      keep a copy of the table memory
-    B                      put the kept copy back over the table memory
+    K                      keep a copy of the table memory that is lent
+    B                      put the kept copy back over the table memory that is lent
     o capacity:4 n:2 n*2   open, the plan as n numbers
     r octets:24            register one point
     b n:4 octets:n         register a batch
@@ -159,10 +159,10 @@ class Machine:
         self.table[at] = octet
 
     def step_K(self):
-        self.kept[:] = self.table
+        self.kept[: self.table_length] = self.table[: self.table_length]
 
     def step_B(self):
-        self.table[:] = self.kept
+        self.table[: self.table_length] = self.kept[: self.table_length]
 
     # The steps that call.
 

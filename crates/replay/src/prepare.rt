@@ -72,7 +72,7 @@ fn set_table(script: &[u8], lent: Lent, table: &mut [u8]) -> Lent {
     lent
 }
 
-// K: keeps a copy of the table memory. B: puts it back. C: sets the clock.
+// K: keeps a copy of the table memory that is lent. B: puts it back. C: sets the clock.
 fn set_copy(
     script: &[u8],
     lent: Lent,
@@ -83,12 +83,13 @@ fn set_copy(
     let at = lent.at;
     let letter = octet(script, at);
     let next = past(script, at, 1);
+    let length = lent.table;
     if letter == b'K' {
-        copy_in(table, kept);
+        copy_in(part(table, 0, length), kept);
         return moved(lent, next);
     }
     if letter == b'B' {
-        copy_in(kept, table);
+        copy_in(part(kept, 0, length), table);
         return moved(lent, next);
     }
     if letter == b'C' {
