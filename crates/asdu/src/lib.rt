@@ -1,0 +1,3 @@
+// One ASDU: its header and objects, a command as it is read, and what answers a command. From `asdu.rs`, `cot.rs` and `types_id.rs`.
+pub mod cot;
+pub mod header;
