@@ -1,2 +1,4 @@
 pub mod Cause
 pub mod Header
+pub mod Command
+pub mod Confirmation
