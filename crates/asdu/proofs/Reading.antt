@@ -118,7 +118,7 @@ commandOf h =
       test = h .test;
       originator = h .originator;
       ca = h .ca;
-      element = elementOctets (h .kind)
+      element = elementOctets (h .kind);
     }
 
 pub read-written : (limit : ℕ) (entry : Entry) (h : Header) (objects : List ℕ) → h .count < 128 → h .cause < 64
@@ -132,7 +132,7 @@ read-written limit entry h objects few low fits served whole =
     let k : length (asdu h objects) ≡ 6 + length objects = length-asdu h objects in
     let L : lengthOk limit (length (asdu h objects)) ≡ true = join (le-leb 6 (length (asdu h objects)) (omega arith)) (le-leb (length (asdu h objects)) (mostOctets limit) (omega arith)) in
     let W : wholeObjects (asdu h objects) ≡ true =
-      join (ap not (sequence-clear h objects few))
-      (eq-eqb (length (asdu h objects)) (objectAt (elementOctets (h .kind)) (h .count % 128)) (k ∙ whole ∙ sym (ap (objectAt (elementOctets (h .kind))) n))) in
+    join (ap not (sequence-clear h objects few))
+    (eq-eqb (length (asdu h objects)) (objectAt (elementOctets (h .kind)) (h .count % 128)) (k ∙ whole ∙ sym (ap (objectAt (elementOctets (h .kind))) n))) in
     simp (L, served, W)
     (λ j. Parsed record { kind = h .kind; count = n j; cause = b .is-cause j; test = b .is-test j; originator = h .originator; ca = a j; element = elementOctets (h .kind) })

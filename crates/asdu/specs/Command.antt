@@ -62,7 +62,7 @@ commandIn m =
       test = testIn m;
       originator = originatorIn m;
       ca = caIn m;
-      element = elementOctets (kindIn m)
+      element = elementOctets (kindIn m);
     }
 
 -- What an entry reads under the length limit L: the first test that fails, or the command.

@@ -19,7 +19,7 @@ replyTo c kind count cause negative =
       negative = negative;
       test = c .test;
       originator = c .originator;
-      ca = c .ca
+      ca = c .ca;
     }
 
 -- The octets of a command's first object.

@@ -78,5 +78,5 @@ headerIn m =
       negative = negativeIn m;
       test = testIn m;
       originator = originatorIn m;
-      ca = caIn m
+      ca = caIn m;
     }

@@ -1,3 +1,4 @@
+pub mod Identification
 pub mod Cause
 pub mod Header
 pub mod Command

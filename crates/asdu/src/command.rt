@@ -58,13 +58,21 @@ pub enum FirstObject {
 fn is_system(class: Class) -> bool
     ensures { λ r. ⌜ r ≡ isSystem class ⌝ }
 {
-    if let Class::System = class { true } else { false }
+    if let Class::System = class {
+        true
+    } else {
+        false
+    }
 }
 
 fn is_process(class: Class) -> bool
     ensures { λ r. ⌜ r ≡ isProcess class ⌝ }
 {
-    if let Class::Process = class { true } else { false }
+    if let Class::Process = class {
+        true
+    } else {
+        false
+    }
 }
 
 // Does the entry serve the type?
@@ -144,5 +152,8 @@ pub fn first_object(command: Command, asdu: &[u8]) -> FirstObject
     if command.count == 0 {
         return FirstObject::None;
     }
-    FirstObject::Object(octets::three_at(asdu, HEADER_OCTETS), HEADER_OCTETS + ADDRESS_OCTETS)
+    FirstObject::Object(
+        octets::three_at(asdu, HEADER_OCTETS),
+        HEADER_OCTETS + ADDRESS_OCTETS,
+    )
 }

@@ -26,7 +26,15 @@ pub fn reply_header(command: Command, kind: u8, count: u8, cause: u8, negative: 
 }
 
 // Writes a confirmation with objects of its own at the front of `out`.
-pub fn put_reply(out: &mut [u8], command: Command, kind: u8, count: u8, cause: u8, negative: bool, objects: &[u8]) -> usize
+pub fn put_reply(
+    out: &mut [u8],
+    command: Command,
+    kind: u8,
+    count: u8,
+    cause: u8,
+    negative: bool,
+    objects: &[u8],
+) -> usize
     requires { ⌜ (cause < 64) × (length (reply command kind count cause negative (now objects)) ≤ length (now out)) ⌝ }
     ensures { λ r. ⌜ (r ≡ length (reply command kind count cause negative (now (objects .entry)))) × (now (out .exit) ≡ over (now (out .entry)) 0 (reply command kind count cause negative (now (objects .entry)))) ⌝ }
 {
@@ -35,7 +43,13 @@ pub fn put_reply(out: &mut [u8], command: Command, kind: u8, count: u8, cause: u
 }
 
 // Writes a confirmation or termination with the first object alone at the front of `out`.
-pub fn put_confirmation(out: &mut [u8], command: Command, asdu: &[u8], cause: u8, negative: bool) -> usize
+pub fn put_confirmation(
+    out: &mut [u8],
+    command: Command,
+    asdu: &[u8],
+    cause: u8,
+    negative: bool,
+) -> usize
     requires { ⌜ (cause < 64) × (9 + command .element ≤ length (now asdu)) × (length (confirmation command (now asdu) cause negative) ≤ length (now out)) ⌝ }
     ensures { λ r. ⌜ (r ≡ length (confirmation command (now (asdu .entry)) cause negative)) × (now (out .exit) ≡ over (now (out .entry)) 0 (confirmation command (now (asdu .entry)) cause negative)) ⌝ }
 {

@@ -3,3 +3,4 @@ pub mod command;
 pub mod confirmation;
 pub mod cot;
 pub mod header;
+pub mod types_id;

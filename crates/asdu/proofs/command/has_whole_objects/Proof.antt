@@ -3,8 +3,10 @@ use borrow.Author.Needs.{needs}
 use Prim.Native.Nat.{ℕ, _+_, _*_, _≤_, _<_}
 use denote.Ref.{now}
 use native.Mathlib.Nat.{mul-le-mul}
-use lib.Dec.{eqb}
-use lib.ListN.{length}
+use mathlib.Core.Path.{_≡_}
+use mathlib.Core.Bool.{true, false}
+use lib.Dec.{leb, eqb}
+use lib.ListN.{length, getD}
 use borrow.Author.Tests.{lt-leb, le-leb}
 use Rattle.limits.specs.Test.{_&_}
 use native.Mathlib.Omega.{arith}
@@ -20,7 +22,10 @@ shared-slice-read-if1 c = search needs
 
 returns : tie.Need-returns
 unfolding _&_
-returns c = simp (le-leb _ _ (c .if1 .taken))
+returns c =
+    let m = now (c .before .before .before .args .asdu) in
+    let flag : leb 128 (getD m 1 0) ≡ true = le-leb 128 (getD m 1 0) (omega arith) in
+    simp flag
 
 shared-slice-read-wide : tie.Need-shared-slice-read-wide
 shared-slice-read-wide c = search needs
@@ -53,7 +58,8 @@ returns-2 c =
     let m = now (c .before .before .before .before .before .before .before .args .asdu) in
     let w = c .before .before .wide .ensures .0 in
     let e = c .element-octets .ensures .0 in
-    rw (lt-leb _ _ (c .before .before .before .before .if1 .left)) (λ j. eqb (length m) (6 + w j * (3 + e j)))
+    let flag : leb 128 (getD m 1 0) ≡ false = lt-leb 128 (getD m 1 0) (omega arith) in
+    rw flag (λ j. eqb (length m) (6 + w j * (3 + e j)))
 
 pub has-whole-objects-spec : {M : Type 1} → statement M
 has-whole-objects-spec =
