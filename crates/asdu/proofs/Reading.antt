@@ -1,6 +1,6 @@
 -- What a reading tells: a command that was parsed is the one in the octets, which hold exactly its objects. Assumes nothing.
 use mathlib.Core.Path.{_≡_, refl, sym, ap, _∙_, subst}
-use mathlib.Core.List.{List, _++_}
+use mathlib.Core.List.{List}
 use mathlib.Core.Bool.{Bool, true, false, not}
 use Prim.Native.Nat.{ℕ, _+_, _*_, _/_, _%_, _≤_, _<_}
 use native.Mathlib.Nat.{add-mul, mul-le-mul-right}
@@ -16,9 +16,7 @@ use Rattle.octets.specs.Number.{three}
 use Rattle.asdu.specs.declared.header.Header.{Header}
 use Rattle.asdu.specs.declared.command.Entry.{Entry}
 use Rattle.asdu.specs.declared.command.Command.{Command}
-use Rattle.asdu.specs.declared.command.Reading.{Reading}
 use Rattle.asdu.specs.declared.command.Reading.the-variants.{LengthOutOfRange, TypeNotServed, ObjectsNotWhole, Parsed}
-use Rattle.asdu.specs.declared.command.FirstObject.{FirstObject}
 use Rattle.asdu.specs.declared.command.FirstObject.the-variants.{Object, None}
 use Rattle.asdu.specs.Header.{header, asdu, mostOctets, kindIn, sequenceIn}
 use Rattle.asdu.specs.Command.{serves, lengthOk, objectAt, wholeObjects, commandIn, readAs, firstObject}

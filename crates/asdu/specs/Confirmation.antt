@@ -22,18 +22,18 @@ replyTo c kind count cause negative =
       ca = c .ca;
     }
 
+-- An answer to a command with objects of its own, as the confirmation of a process command has them.
+unfoldable pub reply : Command → ℕ → ℕ → ℕ → Bool → List ℕ → List ℕ
+reply c kind count cause negative objects = asdu (replyTo c kind count cause negative) objects
+
 -- The octets of a command's first object.
 abbrev pub firstOctets : Command → List ℕ → List ℕ
 firstOctets c m = take (addressOctets + c .element) (drop headerOctets m)
 
 -- A confirmation or termination with the first object alone.
 unfoldable pub confirmation : Command → List ℕ → ℕ → Bool → List ℕ
-confirmation c m cause negative = asdu (replyTo c (c .kind) 1 cause negative) (firstOctets c m)
+confirmation c m cause negative = reply c (c .kind) 1 cause negative (firstOctets c m)
 
 -- A confirmation that echoes all objects.
 unfoldable pub echo : Command → List ℕ → ℕ → Bool → List ℕ
-echo c m cause negative = asdu (replyTo c (c .kind) (c .count) cause negative) (drop headerOctets m)
-
--- A confirmation with objects of its own, as a process command has it.
-unfoldable pub reply : Command → ℕ → ℕ → ℕ → Bool → List ℕ → List ℕ
-reply c kind count cause negative objects = asdu (replyTo c kind count cause negative) objects
+echo c m cause negative = reply c (c .kind) (c .count) cause negative (drop headerOctets m)

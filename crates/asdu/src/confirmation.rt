@@ -25,7 +25,7 @@ pub fn reply_header(command: Command, kind: u8, count: u8, cause: u8, negative: 
     }
 }
 
-// Writes a confirmation with objects of its own at the front of `out`.
+// Writes an answer with objects of its own at the front of `out`.
 pub fn put_reply(
     out: &mut [u8],
     command: Command,
@@ -55,8 +55,15 @@ pub fn put_confirmation(
 {
     let start = HEADER_OCTETS;
     let end = start + (ADDRESS_OCTETS + command.element);
-    let h = reply_header(command, command.kind, 1, cause, negative);
-    header::put_asdu(out, h, &asdu[start..end])
+    put_reply(
+        out,
+        command,
+        command.kind,
+        1,
+        cause,
+        negative,
+        &asdu[start..end],
+    )
 }
 
 // Writes a confirmation that echoes all objects at the front of `out`.
@@ -65,6 +72,13 @@ pub fn put_echo(out: &mut [u8], command: Command, asdu: &[u8], cause: u8, negati
     ensures { λ r. ⌜ (r ≡ length (echo command (now (asdu .entry)) cause negative)) × (now (out .exit) ≡ over (now (out .entry)) 0 (echo command (now (asdu .entry)) cause negative)) ⌝ }
 {
     let start = HEADER_OCTETS;
-    let h = reply_header(command, command.kind, command.count, cause, negative);
-    header::put_asdu(out, h, &asdu[start..])
+    put_reply(
+        out,
+        command,
+        command.kind,
+        command.count,
+        cause,
+        negative,
+        &asdu[start..],
+    )
 }

@@ -2,7 +2,6 @@
 use borrow.Author.Needs.{needs}
 use denote.Ref.{now}
 use Rattle.asdu.specs.Header.{kindIn, countIn, causeIn, testIn, originatorIn}
-use native.Mathlib.Omega.{arith}
 use Rattle.asdu.proofs.command.command_in.Statement.{statement}
 use Rattle.asdu.proofs.command.command_in.Tie as tie
 

@@ -2,7 +2,6 @@
 use borrow.Author.Needs.{needs}
 use borrow.Author.Tests.{eq-eqb, ne-eqb}
 use Rattle.asdu.specs.declared.command.FirstObject.the-variants.{Object}
-use native.Mathlib.Omega.{arith}
 use Rattle.asdu.proofs.command.first_object.Statement.{statement}
 use Rattle.asdu.proofs.command.first_object.Tie as tie
 

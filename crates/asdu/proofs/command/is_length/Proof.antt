@@ -1,5 +1,4 @@
 -- Each return computes `lengthOk` by the tests that led there.
-use borrow.Author.Needs.{needs}
 use mathlib.Core.Path.{_≡_}
 use mathlib.Core.Bool.{false}
 use Prim.Native.Nat.{_-_}

@@ -4,7 +4,6 @@ use mathlib.Core.Path.{sym, ap, _∙_}
 use Rattle.limits.specs.Size.{classOf}
 use Rattle.asdu.specs.declared.command.Entry.{Entry}
 use Rattle.asdu.specs.Command.{isSystem, isProcess, serves}
-use native.Mathlib.Omega.{arith}
 use Rattle.asdu.proofs.command.is_served.Statement.{statement}
 use Rattle.asdu.proofs.command.is_served.Tie as tie
 

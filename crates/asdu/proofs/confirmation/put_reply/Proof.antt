@@ -7,7 +7,6 @@ use lib.ListN.{length}
 use Rattle.asdu.specs.declared.header.Header.{Header}
 use Rattle.asdu.specs.Header.{asdu}
 use Rattle.asdu.specs.Confirmation.{reply}
-use native.Mathlib.Omega.{arith}
 use Rattle.asdu.proofs.confirmation.put_reply.Statement.{statement}
 use Rattle.asdu.proofs.confirmation.put_reply.Tie as tie
 
