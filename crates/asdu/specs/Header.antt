@@ -6,20 +6,13 @@ use mathlib.Core.Bool.{Bool}
 use lib.ListN.{getD}
 use lib.Dec.{leb}
 use Rattle.limits.specs.Test.{pick}
+use Rattle.limits.specs.Size.{controlOctets}
 use Rattle.octets.specs.Number.{two, pair, triple}
 use Rattle.asdu.specs.declared.header.Header.{Header}
 
--- The octets of a header.
-abbrev pub headerOctets : ℕ
-headerOctets = 6
-
--- The octets of an information object address (7.2.5).
-abbrev pub addressOctets : ℕ
-addressOctets = 3
-
 -- The most octets of an ASDU under the length limit L of an APDU: L less four control octets, 249 of 253.
 abbrev pub mostOctets : ℕ → ℕ
-mostOctets limit = limit - 4
+mostOctets limit = limit - controlOctets
 
 -- The common address that means every station (7.2.4).
 abbrev pub globalAddress : ℕ
@@ -85,5 +78,5 @@ headerIn m =
       negative = negativeIn m;
       test = testIn m;
       originator = originatorIn m;
-      ca = caIn m
+      ca = caIn m;
     }

@@ -1,17 +1,12 @@
 // The six octets before the objects, an object, and an ASDU made of both.
+use limits::size::ADDRESS_OCTETS;
+use limits::size::HEADER_OCTETS;
 ghost use mathlib.Core.Path.{_≡_};
 ghost use Prim.Native.Nat.{_+_, _≤_, _<_};
 ghost use lib.ListN.{length};
 ghost use Rattle.limits.specs.Test.{pick};
-ghost use Rattle.octets.specs.Number.{triple};
 ghost use Rattle.octets.specs.Over.{over};
 ghost use Rattle.asdu.specs.Header.{header, object, asdu};
-
-// The octets of a header.
-pub const ASDU_HEADER_SIZE: usize = 6;
-
-// The octets of an information object address.
-pub const ADDRESS_SIZE: usize = 3;
 
 // The common address that means every station.
 pub const GLOBAL_COMMON_ADDRESS: u16 = 65535;
@@ -49,14 +44,6 @@ fn header_octets(h: Header) -> [u8; 6]
     ]
 }
 
-// An object address as its three octets.
-fn address_octets(ioa: u32) -> [u8; 3]
-    requires { ⌜ ioa < 16777216 ⌝ }
-    ensures { λ r. ⌜ r ≡ triple ioa ⌝ }
-{
-    [(ioa % 256) as u8, (ioa / 256 % 256) as u8, (ioa / 65536) as u8]
-}
-
 // Writes a header at the front of `out`.
 pub fn put_header(out: &mut [u8], h: Header) -> usize
     requires { ⌜ (h .cause < 64) × (length (header h) ≤ length (now out)) ⌝ }
@@ -64,18 +51,17 @@ pub fn put_header(out: &mut [u8], h: Header) -> usize
 {
     let octets = header_octets(h);
     octets::copy_in(&octets, out, 0);
-    ASDU_HEADER_SIZE
+    HEADER_OCTETS
 }
 
 // Writes an object at the front of `out`.
-pub fn put_object(out: &mut [u8], ioa: u32, element: &[u8]) -> usize
+pub fn put_object(out: &mut [u8], ioa: usize, element: &[u8]) -> usize
     requires { ⌜ (ioa < 16777216) × (length (object ioa (now element)) ≤ length (now out)) ⌝ }
     ensures { λ r. ⌜ (r ≡ length (object ioa (now (element .entry)))) × (now (out .exit) ≡ over (now (out .entry)) 0 (object ioa (now (element .entry)))) ⌝ }
 {
-    let address = address_octets(ioa);
-    octets::copy_in(&address, out, 0);
-    octets::copy_in(element, out, ADDRESS_SIZE);
-    ADDRESS_SIZE + element.len()
+    octets::put_three(out, 0, ioa);
+    octets::copy_in(element, out, ADDRESS_OCTETS);
+    ADDRESS_OCTETS + element.len()
 }
 
 // Writes a header and the octets of its objects at the front of `out`.
@@ -84,6 +70,6 @@ pub fn put_asdu(out: &mut [u8], h: Header, objects: &[u8]) -> usize
     ensures { λ r. ⌜ (r ≡ length (asdu h (now (objects .entry)))) × (now (out .exit) ≡ over (now (out .entry)) 0 (asdu h (now (objects .entry)))) ⌝ }
 {
     put_header(out, h);
-    octets::copy_in(objects, out, ASDU_HEADER_SIZE);
-    ASDU_HEADER_SIZE + objects.len()
+    octets::copy_in(objects, out, HEADER_OCTETS);
+    HEADER_OCTETS + objects.len()
 }

@@ -1,4 +1,5 @@
 pub mod Tests
+pub mod Sizes
+pub mod Outcomes
 pub mod Shares
 pub mod Cases
-pub mod Sizes

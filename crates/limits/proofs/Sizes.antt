@@ -8,11 +8,13 @@ use native.Mathlib.Decide.{decLe}
 use native.Mathlib.Nat.{add-zero, zero-add, add-suc, suc-add, le-of-suc-le-suc, not-suc-le-zero, zero-mul, add-mul, div-zero, div-eq-of-lt, div-mul-le-self, add-div-right, le-div-iff-mul-le, mul-le-mul-right}
 use native.Mathlib.Omega.{arith}
 use lib.Dec.{eqb, leb, ltb}
-use lib.ListN.{length, getD, List·getD-eq-default}
-use borrow.Author.Tests.{eqb-true, leb-true, ltb-true, le-ltb}
+use lib.ListN.{length, getD, set, List·getD-eq-default}
+use lib.Seq.{ext-getD, getD-set-same, getD-set-other}
+use borrow.Author.Count.{below-more}
+use borrow.Author.Tests.{eqb-true, eqb-false, leb-true, le-ltb}
 use Rattle.limits.specs.Test.{_&_, pick, total}
 use Rattle.limits.proofs.Tests.{both}
-use Rattle.limits.specs.Size.{Kind, pointTypes, systemTypes, processTypes, endTypes, namedTypes, listed, octetsIn, pointOctets, elementOctets, classOf, standardLimit, controlOctets, headerOctets, addressOctets, mostObjects, runOctets, valuesFrom, pointSizes, classNumber, kindCode}
+use Rattle.limits.specs.Size.{Kind, pointTypes, systemTypes, processTypes, endTypes, namedTypes, listed, octetsIn, pointOctets, elementOctets, classOf, standardLimit, controlOctets, headerOctets, addressOctets, mostObjects, runOctets, valuesFrom, pointSizes, classNumber, kindCode, kindCodes, pointPart}
 use Rattle.limits.specs.declared.size.Class.{Class}
 use Rattle.limits.specs.declared.size.Class.the-variants.{Point, System, Process, EndOfInitialization, Unknown}
 
@@ -101,6 +103,18 @@ values-from f i (suc n) (suc k) h = values-from f (suc i) n k (le-of-suc-le-suc 
 
 pub values-at : (f : ℕ → ℕ) (n k : ℕ) → k < n → getD (valuesFrom f 0 n) k 0 ≡ f k
 values-at f n k h = values-from f 0 n k h ∙ ap f (zero-add k)
+
+-- One value more is stored in its place.
+pub one-more : (f : ℕ → ℕ) (l : List ℕ) (i x : ℕ) → i < length l → x ≡ f i
+    → ((k : ℕ) → k < i → getD l k 0 ≡ f k) → (k : ℕ) → k < i + 1 → getD (set l i x) k 0 ≡ f k
+one-more f l i x h e all =
+    below-more (λ k. getD (set l i x) k 0 ≡ f k) i (λ k b. getD-set-other l i k x 0 (λ q. omega arith) ∙ all k b) (getD-set-same l i x 0 h ∙ e)
+
+-- A list of n with the value at each place is the list of values.
+pub all-values : (f : ℕ → ℕ) (l : List ℕ) (n : ℕ) → length l ≡ n → ((k : ℕ) → k < n → getD l k 0 ≡ f k) → l ≡ valuesFrom f 0 n
+all-values f l n e all =
+    ext-getD 0 l (valuesFrom f 0 n) (e ∙ sym (length-values f 0 n))
+    (λ k h. let b : k < n = omega arith in all k b ∙ sym (values-at f n k b))
 
 -- ---- the types of document 01
 
@@ -214,37 +228,62 @@ entry k code h =
 pub class-is : (k n : ℕ) → n ≡ classNumber (classOf k) → classAt n ≡ classOf k
 class-is k n h = ap classAt h ∙ numbered (classOf k)
 
--- Types end at 107.
-pub code-beyond : (k : ℕ) → 108 ≤ k → kindCode k ≡ 0
+-- The octets of a point's entry are the point's; any other entry's are no point's.
+pub point-entry : (k code : ℕ) → code ≡ kindCode k → pointPart code ≡ pointOctets k
+unfolding classNumber
+point-entry k code h = go (eqb (code / 16) 1) refl
+  where
+    go : (b : Bool) → eqb (code / 16) 1 ≡ b → pick b (code % 16) 0 ≡ pointOctets k
+    go true q = entry k code h .low ∙ point-element k (sym (class-is k 1 (sym (eqb-true _ _ q) ∙ entry k code h .high)))
+    go false q = sym (no-point k (λ p. eqb-false _ _ q (entry k code h .high ∙ ap classNumber p)))
+
+-- Read at a type's number, the table gives the type's entry.
+pub codes-at : (k : ℕ) → k < 108 → getD kindCodes k 0 ≡ kindCode k
+unfolding kindCodes
+codes-at k h = values-at kindCode 108 k h
+
+-- No type from 108 on has an entry.
+pub beyond-codes : (k : ℕ) → 108 ≤ k → kindCode k ≡ 0
 unfolding kindCode classNumber classOf elementOctets namedTypes pointTypes systemTypes processTypes endTypes _&_
-code-beyond k h =
+beyond-codes k h =
     let b : listed namedTypes k ≡ false = beyond 108 namedTypes refl k h in
     let u = unnamed k b in
     simp (u .point, u .system, u .process, u .end, not-listed namedTypes k b)
 
 -- ---- packing, over all element sizes and length limits
 
--- At the standard's limit 243 octets are divided.
-pub standard-room : standardLimit - (controlOctets + headerOctets) ≡ 243
-standard-room = refl
+-- Document 01's sentence, at the standard's limit: 243 divided by 3 and the element octets, at most 127.
+pub standard-most : (element : ℕ) → mostObjects standardLimit element ≡ min (243 / (3 + element)) 127
+standard-most element = refl
+
+-- Less room than an object's width holds none.
+pub none-fits : (room width most : ℕ) → room < width → min (room / width) most ≡ 0
+none-fits room width most h = let z : room / width ≡ 0 = div-eq-of-lt h in omega arith
+
+-- Room for an object's width holds one.
+pub some-fit : (room width most : ℕ) → 1 ≤ most → 1 ≤ width → width ≤ room → 1 ≤ min (room / width) most
+some-fit room width most m p h =
+    let d : 1 ≤ room / width = le-div-iff-mul-le {k = width} {x = 1} {y = room} p .1 (omega arith) in
+    omega arith
+
+-- No more objects than fit take no more than the room.
+pub fits : (room width most n : ℕ) → n ≤ min (room / width) most → n * width ≤ room
+fits room width most n h =
+    let a : n * width ≤ room / width * width = mul-le-mul-right width (omega arith) in
+    omega (arith, div-mul-le-self room width)
 
 -- At least one object fits where the limit leaves room for one.
-pub one-object : (limit element : ℕ) → 13 + element ≤ limit → 1 ≤ mostObjects limit element
-one-object limit element h =
-    let d : 1 ≤ (limit - 10) / (3 + element) = le-div-iff-mul-le {k = 3 + element} {x = 1} {y = limit - 10} (omega arith) .1 (omega arith) in
-    omega arith
+pub one-object : (limit element : ℕ) → controlOctets + headerOctets + addressOctets + element ≤ limit → 1 ≤ mostObjects limit element
+one-object limit element h = some-fit _ _ _ (omega arith) (omega arith) (omega arith)
 
 -- At least one object of each point type fits, at every limit from 25 on.
 pub one-fits : (limit element : ℕ) → 25 ≤ limit → element ≤ 12 → 1 ≤ mostObjects limit element
 one-fits limit element h e = one-object limit element (omega arith)
 
 -- An ASDU of at most that many objects is no longer than the limit less its control octets.
-pub asdu-fits : (limit element n : ℕ) → 10 ≤ limit → n ≤ mostObjects limit element → headerOctets + n * (addressOctets + element) ≤ limit - controlOctets
-asdu-fits limit element n l h =
-    let w : ℕ = 3 + element in
-    let a : n * w ≤ (limit - 10) / w * w = mul-le-mul-right w (omega arith) in
-    let b : (limit - 10) / w * w ≤ limit - 10 = div-mul-le-self (limit - 10) w in
-    omega arith
+pub asdu-fits : (limit element n : ℕ) → controlOctets + headerOctets ≤ limit → n ≤ mostObjects limit element
+    → headerOctets + n * (addressOctets + element) ≤ limit - controlOctets
+asdu-fits limit element n l h = omega (arith, fits _ _ _ n h)
 
 -- No objects take no octets.
 pub run-none : (limit element : ℕ) → runOctets limit element 0 ≡ 0
@@ -269,7 +308,7 @@ run-more limit element n = go (mostObjects limit element)
     go most h =
         let e : most + n + (most - 1) ≡ n + (most - 1) + most = omega arith in
         let d : (most + n + (most - 1)) / most ≡ (n + (most - 1)) / most + 1 =
-            ap (λ (x : ℕ). x / most) e ∙ add-div-right (n + (most - 1)) h in
+        ap (λ (x : ℕ). x / most) e ∙ add-div-right (n + (most - 1)) h in
         let m : (most + n) * (3 + element) ≡ most * (3 + element) + n * (3 + element) = add-mul most n (3 + element) in
         omega arith
 
@@ -283,5 +322,5 @@ run-last limit element n p = go (mostObjects limit element)
         let e : n + (most - 1) ≡ n - 1 + most = omega arith in
         let z : (n - 1) / most ≡ 0 = div-eq-of-lt (omega arith) in
         let d : (n + (most - 1)) / most ≡ (n - 1) / most + 1 =
-            ap (λ (x : ℕ). x / most) e ∙ add-div-right (n - 1) (omega arith) in
+        ap (λ (x : ℕ). x / most) e ∙ add-div-right (n - 1) (omega arith) in
         omega arith

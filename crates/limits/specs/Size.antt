@@ -1,9 +1,9 @@
 -- Sizes: the element octets of every type, the most objects in one ASDU, and the octets of a run of objects.
 -- Document 01, 'Octets of an ASDU'; IEC 60870-5-101, 7.2.1 (types) and 7.3 (elements); IEC 60870-5-104, 5 (253 octets after the length octet).
-use Prim.Native.Nat.{ℕ, zero, suc, _+_, _*_, _-_, _/_, min}
+use Prim.Native.Nat.{ℕ, zero, suc, _+_, _*_, _-_, _/_, _%_, min}
 use mathlib.Core.Bool.{Bool, true, false}
 use mathlib.Core.List.{List, [], _∷_, _++_}
-use lib.Dec.{leb, eqb}
+use lib.Dec.{eqb}
 use Rattle.limits.specs.Test.{pick}
 use Rattle.limits.specs.declared.size.Class.{Class}
 use Rattle.limits.specs.declared.size.Class.the-variants.{Point, System, Process, EndOfInitialization, Unknown}
@@ -118,3 +118,11 @@ classNumber EndOfInitialization = 4
 -- A type's entry in the code's table: the class in the high four bits, the element octets in the low four.
 unfoldable pub kindCode : ℕ → ℕ
 kindCode n = 16 * classNumber (classOf n) + elementOctets n
+
+-- The entries of types 0 to 107, the last type that document 01 names.
+unfoldable pub kindCodes : List ℕ
+kindCodes = valuesFrom kindCode 0 108
+
+-- The octets of an entry where its class is a point's; else 0.
+abbrev pub pointPart : ℕ → ℕ
+pointPart code = pick (eqb (code / 16) 1) (code % 16) 0

@@ -4,7 +4,6 @@ use mathlib.Core.List.{_∷_}
 use Prim.Native.Nat.{_+_}
 use Rattle.octets.specs.Number.{pair}
 use Rattle.asdu.specs.Header.{header}
-use native.Mathlib.Omega.{arith}
 use Rattle.asdu.proofs.header.header_octets.Statement.{statement}
 use Rattle.asdu.proofs.header.header_octets.Tie as tie
 

@@ -1,17 +1,13 @@
 -- Below ten octets nothing is divided, and the quotient is 0.
-use mathlib.Core.Path.{_≡_}
-use Prim.Native.Nat.{ℕ, _+_, _-_, _/_}
+use mathlib.Core.Path.{sym}
 use borrow.Author.Needs.{needs}
 use native.Mathlib.Omega.{arith}
-use native.Mathlib.Nat.{div-eq-of-lt}
+use Rattle.limits.proofs.Sizes.{none-fits}
 use Rattle.limits.proofs.size.most_objects.Statement.{statement}
 use Rattle.limits.proofs.size.most_objects.Tie as tie
 
 returns : tie.Need-returns
-returns c =
-    let a = c .before .args in
-    let z : (a .limit - 10) / (3 + a .element) ≡ 0 = div-eq-of-lt (omega arith) in
-    omega arith
+returns c = (sym (none-fits _ _ _ (omega arith)), omega arith)
 
 add-fit : tie.Need-add-fit
 add-fit c = search needs

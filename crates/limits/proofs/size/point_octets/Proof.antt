@@ -1,32 +1,24 @@
--- An entry whose high four bits are 1 is a point's, and its octets are the type's; no other type has a point's octets.
-use mathlib.Core.Path.{_≡_, sym, ap, _∙_}
-use Prim.Native.Nat.{ℕ, _/_}
+-- The octets of a point's entry are the point's, and every other type has none.
+use mathlib.Core.Path.{_∙_}
 use borrow.Author.Needs.{needs}
 use native.Mathlib.Omega.{arith}
-use Rattle.limits.specs.Size.{classNumber, classOf, pointOctets}
-use Rattle.limits.specs.declared.size.Class.the-variants.{Point}
-use Rattle.limits.proofs.Sizes.{entry, class-is, no-point, point-element, point-at-most}
+use Rattle.limits.proofs.Sizes.{point-entry, point-at-most}
 use Rattle.limits.proofs.size.point_octets.Statement.{statement}
 use Rattle.limits.proofs.size.point_octets.Tie as tie
 
 kind-code-requires : tie.Need-kind-code-requires
 kind-code-requires c κs = search needs
 
-returns : tie.Need-returns
-unfolding classNumber
-returns c =
-    let k : ℕ = c .before .before .args .kind in
-    let e = entry k _ (c .before .kind-code .ensures) in
-    let z : pointOctets k ≡ 0 = no-point k (λ h. c .if1 .taken (e .high ∙ ap classNumber h)) in
-    omega arith
+point-part-requires : tie.Need-point-part-requires
+point-part-requires c κs = search needs
 
-returns-2 : tie.Need-returns-2
-returns-2 c =
-    let k : ℕ = c .before .before .args .kind in
-    let e = entry k _ (c .before .kind-code .ensures) in
-    let p : classOf k ≡ Point = sym (class-is k 1 (omega arith)) in
-    let m = point-at-most k in
-    (e .low ∙ point-element k p, omega (arith, point-element k p))
+wide-requires : tie.Need-wide-requires
+wide-requires c κs = search needs
+
+returns : tie.Need-returns
+returns c =
+    let r = c .wide .ensures .0 ∙ c .before .point-part .ensures ∙ point-entry _ _ (c .before .before .kind-code .ensures) in
+    (r, omega (arith, point-at-most (c .before .before .before .args .kind)))
 
 pub point-octets-spec : {M : Type 1} → statement M
-point-octets-spec = tie.close (tie.spec kind-code-requires returns returns-2)
+point-octets-spec = tie.close (tie.spec kind-code-requires point-part-requires wide-requires returns)

@@ -1,10 +1,9 @@
 -- At least one object fits, so there is a number of ASDUs; the products fit, by their bounds.
-use mathlib.Core.Path.{_≡_, ap, _∙_}
-use Prim.Native.Nat.{ℕ, _+_, _*_, _-_, _/_, _≤_}
+use mathlib.Core.Path.{ap}
+use Prim.Native.Nat.{ℕ, _+_, _*_, _-_, _/_}
 use borrow.Author.Needs.{needs}
 use native.Mathlib.Omega.{arith}
 use native.Mathlib.Nat.{div-le-self, mul-le-mul}
-use Rattle.limits.specs.Size.{mostObjects}
 use Rattle.limits.proofs.Sizes.{one-object}
 use Rattle.limits.proofs.size.run_octets.Statement.{statement}
 use Rattle.limits.proofs.size.run_octets.Tie as tie
