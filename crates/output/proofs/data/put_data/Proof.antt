@@ -1,5 +1,6 @@
 use borrow.Author.Needs.{needs}
 use native.Mathlib.Omega.{arith}
+use mathlib.Core.Path.{refl}
 use Rattle.output.proofs.data.put_data.Statement.{statement}
 use Rattle.output.proofs.data.put_data.Tie as tie
 use Rattle.output.proofs.data.put_data.Reads as reads
@@ -24,7 +25,9 @@ slice-aggregate-put-with-4 c = search needs
 
 -- src/data.rt:45:5
 put-with-requires : tie.Need-put-with-requires
-put-with-requires c κs = search needs
+put-with-requires c κs =
+    let b = c .before .before .before .before .before .before .before .before in
+    (omega arith, omega arith, omega arith, omega arith, omega arith, omega arith, omega arith, b .pre .7, omega arith, omega arith, omega arith, omega arith, refl)
 
 -- src/data.rt:37:1
 same-length : tie.Need-same-length
