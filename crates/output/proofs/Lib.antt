@@ -1,2 +1,4 @@
 pub mod Places
 pub mod Answer
+pub mod Reached
+pub mod Alone

@@ -1,2 +1,4 @@
 pub mod Order
 pub mod Data
+pub mod Reach
+pub mod Start
