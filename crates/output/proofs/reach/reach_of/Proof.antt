@@ -1,5 +1,19 @@
 use borrow.Author.Needs.{needs}
 use native.Mathlib.Omega.{arith}
+use mathlib.Core.Path.{_≡_, refl, sym, ap, ap₂, _∙_, subst}
+use mathlib.Core.List.{List, []}
+use mathlib.Core.Bool.{Bool, true, false}
+use Prim.Native.Nat.{ℕ, _+_, _*_, _-_, _≤_, _<_}
+use lib.ListN.{length, getD, take, drop, length-set}
+use denote.Ref.{now}
+use lib.Dec.{eqb}
+use borrow.Author.Tests.{eq-eqb, ne-eqb}
+use Rattle.limits.specs.Test.{pick}
+use Rattle.asdu.specs.Header.{globalAddress}
+use Rattle.octets.specs.Number.{two}
+use Rattle.seats.specs.Seats.{seatAt}
+use Rattle.output.specs.declared.reach.Reach.{Reach}
+use Rattle.output.specs.Reach.{seatReach, reachOf}
 use Rattle.output.proofs.reach.reach_of.Statement.{statement}
 use Rattle.output.proofs.reach.reach_of.Tie as tie
 use Rattle.output.proofs.reach.reach_of.Reads as reads
@@ -15,7 +29,12 @@ two-at-requires c κs = search needs
 
 -- src/reach.rt:42:9
 returns : tie.Need-returns
-returns c = search needs
+unfolding reachOf
+returns c =
+    let a = c .before .before .before .args in
+    let t = eq-eqb (a .ca) globalAddress (c .before .if1 .taken) in
+    ap (λ (n : ℕ). record { base = 64; n = n; every = true }) (c .two-at .ensures .0)
+    ∙ ap (λ (b : Bool). pick {A = Reach} b (record { base = 64; n = two (now (a .m)) 8; every = true }) (seatReach (seatAt (now (a .m)) (a .ca)))) (sym t)
 
 -- src/reach.rt:48:34
 wide16-requires : tie.Need-wide16-requires
@@ -31,7 +50,12 @@ seat-reach-requires c κs = search needs
 
 -- src/reach.rt:37:1
 returns-2 : tie.Need-returns-2
-returns-2 c = search needs
+unfolding reachOf
+returns-2 c =
+    let a = c .before .before .before .before .before .args in
+    let t = ne-eqb (a .ca) globalAddress (c .before .before .before .if1 .left) in
+    c .seat-reach .ensures ∙ ap seatReach (c .before .seat-at .ensures ∙ ap (seatAt (now (a .m))) (c .before .before .wide16 .ensures .0))
+    ∙ ap (λ (b : Bool). pick {A = Reach} b (record { base = 64; n = two (now (a .m)) 8; every = true }) (seatReach (seatAt (now (a .m)) (a .ca)))) (sym t)
 
 pub reach-of-spec : {M : Type 1} → statement M
 reach-of-spec =

@@ -1,5 +1,17 @@
 use borrow.Author.Needs.{needs}
 use native.Mathlib.Omega.{arith}
+use mathlib.Core.Path.{_≡_, refl, sym, ap, ap₂, _∙_, subst}
+use mathlib.Core.List.{List, []}
+use mathlib.Core.Bool.{Bool, true, false}
+use Prim.Native.Nat.{ℕ, _+_, _*_, _-_, _≤_, _<_}
+use lib.ListN.{length, getD, take, drop, length-set}
+use denote.Ref.{now}
+use mathlib.Core.List.{_∷_}
+use Rattle.octets.specs.Over.{over}
+use Rattle.asdu.specs.declared.header.Header.{Header}
+use Rattle.asdu.specs.Header.{asdu}
+use Rattle.asdu.proofs.Laws.{length-asdu}
+use Rattle.output.proofs.Alone.{end-is}
 use Rattle.output.proofs.single.put_end_of_initialization.Statement.{statement}
 use Rattle.output.proofs.single.put_end_of_initialization.Tie as tie
 use Rattle.output.proofs.single.put_end_of_initialization.Reads as reads
@@ -17,7 +29,11 @@ slice-aggregate-put-asdu c = search needs
 
 -- src/single.rt:82:5
 put-asdu-requires : tie.Need-put-asdu-requires
-put-asdu-requires c κs = search needs
+put-asdu-requires c κs =
+    let d = c .before .before .data-header in
+    let e : d .result .cause ≡ 4 = ap (λ (x : Header). x .cause) (d .ensures) in
+    let l = length-asdu (d .result) (0 ∷ 0 ∷ 0 ∷ 0 ∷ []) in
+    (omega arith, omega arith)
 
 -- src/single.rt:71:1
 same-length : tie.Need-same-length
@@ -25,7 +41,12 @@ same-length c = search needs
 
 -- src/single.rt:71:1
 returns : tie.Need-returns
-returns c = search needs
+returns c =
+    let a = c .before .before .before .before .before .before .before .args in
+    let d = c .before .before .before .before .before .data-header in
+    let p = c .before .before .put-asdu in
+    let e = ap (λ (h : Header). asdu h (0 ∷ 0 ∷ 0 ∷ 0 ∷ [])) (d .ensures) ∙ end-is (a .ca) in
+    (p .ensures .0 ∙ ap length e, p .ensures .1 ∙ ap (over (now (a .out)) 0) e)
 
 pub put-end-of-initialization-spec : {M : Type 1} → statement M
 put-end-of-initialization-spec =

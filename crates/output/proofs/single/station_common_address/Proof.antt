@@ -1,5 +1,13 @@
 use borrow.Author.Needs.{needs}
 use native.Mathlib.Omega.{arith}
+use mathlib.Core.Path.{_≡_, refl, sym, ap, ap₂, _∙_, subst}
+use mathlib.Core.List.{List, []}
+use mathlib.Core.Bool.{Bool, true, false}
+use Prim.Native.Nat.{ℕ, _+_, _*_, _-_, _≤_, _<_}
+use lib.ListN.{length, getD, take, drop, length-set}
+use denote.Ref.{now}
+use Rattle.octets.specs.Number.{two}
+use Rattle.output.specs.Start.{firstHolding, startAddress}
 use Rattle.output.proofs.single.station_common_address.Statement.{statement}
 use Rattle.output.proofs.single.station_common_address.Tie as tie
 use Rattle.output.proofs.single.station_common_address.Reads as reads
@@ -33,7 +41,12 @@ cast-result c = search needs
 
 -- src/single.rt:61:1
 returns : tie.Need-returns
-returns c = search needs
+unfolding startAddress
+returns c =
+    let a = c .before .before .before .before .args in
+    let k = c .before .before .two-at .ensures .0 in
+    let n = c .before .two-at2 .ensures .0 in
+    c .first-holding .ensures .0 ∙ ap₂ (λ (x y : ℕ). firstHolding (now (a .m)) (64 + 48 * x) y) k n
 
 pub station-common-address-spec : {M : Type 1} → statement M
 station-common-address-spec =
