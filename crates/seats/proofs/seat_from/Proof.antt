@@ -1,0 +1,84 @@
+use borrow.Author.Needs.{needs}
+use native.Mathlib.Omega.{arith}
+use Rattle.seats.proofs.Walk.{seat-hit, seat-on, seat-end}
+use Rattle.seats.specs.Seats.{seatIn}
+use Rattle.octets.specs.Number.{two}
+use denote.Ref.{now}
+use lib.ListN.{length}
+use Prim.Native.Nat.{_+_, _*_, _-_, _≤_}
+use mathlib.Core.Path.{_≡_, refl, sym, _∙_}
+use Rattle.seats.proofs.seat_from.Statement.{statement}
+use Rattle.seats.proofs.seat_from.Tie as tie
+
+abbrev Inv-loop : tie.InvT-loop
+Inv-loop m ca at n i₀ pb₀ sb₀ left₀ i pb sb left = (seatIn m ca 0 64 at n ≡ seatIn m ca i pb sb left) × (sb + 8 * left ≤ length m) × (left ≤ n) × (i ≤ n - left) × (pb ≤ 64 + 48 * (65536 * (n - left)))
+
+abbrev μ-loop : tie.MeasureT-loop
+μ-loop m ca at n i₀ pb₀ sb₀ left₀ i pb sb left = left
+
+loop-holds : tie.Need-loop-holds Inv-loop μ-loop
+loop-holds c = (refl, omega arith, omega arith, omega arith, omega arith)
+
+add-two-at : tie.Need-add-two-at Inv-loop μ-loop
+add-two-at c = search needs
+
+two-at-requires : tie.Need-two-at-requires Inv-loop μ-loop
+two-at-requires c κs = search needs
+
+two-at-requires-2 : tie.Need-two-at-requires-2 Inv-loop μ-loop
+two-at-requires-2 c κs = search needs
+
+returns : tie.Need-returns Inv-loop μ-loop
+returns c =
+    let m = now (c .before .before .before .before .before .before .args .m) in
+    let l = c .before .before .before .before .loop in
+    let h : c .before .before .two-at .result ≡ two m (l .sb + 6) = omega arith in
+    rw h (sym (l .inv .0 ∙ seat-hit _ _ _ _ _ _ (omega arith) (omega arith)))
+
+add-i : tie.Need-add-i Inv-loop μ-loop
+add-i c = search needs
+
+mul-pb : tie.Need-mul-pb Inv-loop μ-loop
+mul-pb c = search needs
+
+add-pb : tie.Need-add-pb Inv-loop μ-loop
+add-pb c = search needs
+
+add-sb : tie.Need-add-sb Inv-loop μ-loop
+add-sb c = search needs
+
+sub-left : tie.Need-sub-left Inv-loop μ-loop
+sub-left c = search needs
+
+loop-less : tie.Need-loop-less Inv-loop μ-loop
+loop-less c = search needs
+
+loop-again : tie.Need-loop-again Inv-loop μ-loop
+loop-again c =
+    let m = now (c .before .before .before .before .before .before .args .m) in
+    let l = c .before .before .before .before .loop in
+    let h : c .before .before .two-at .result ≡ two m (l .sb + 6) = omega arith in
+    (l .inv .0 ∙ seat-on _ _ _ _ _ _ (omega arith) (omega arith) ∙ rw h refl, omega arith, omega arith, omega arith, omega arith)
+
+returns-2 : tie.Need-returns-2 Inv-loop μ-loop
+returns-2 c = sym (c .before .loop .inv .0 ∙ seat-end _ _ _ _ _ _ (omega arith))
+
+pub seat-from-spec : {M : Type 1} → statement M
+seat-from-spec =
+    tie.close
+    (tie.spec
+    Inv-loop
+    μ-loop
+    loop-holds
+    add-two-at
+    two-at-requires
+    two-at-requires-2
+    returns
+    add-i
+    mul-pb
+    add-pb
+    add-sb
+    sub-left
+    loop-less
+    loop-again
+    returns-2)
