@@ -1,4 +1,16 @@
 // A point, the 48 octets of its place, the request to register one, and their tests. From `model.rs` and `point_value.rs`.
+mod place;
+mod places;
+mod registration;
+
+pub use place::place_of;
+pub use place::point_at;
+pub use place::put_place;
+pub use places::place_limits;
+pub use places::places_ok;
+pub use registration::own_fault;
+pub use registration::point_of;
+pub use registration::request_at;
 
 // A registered point: its type, address, interrogation group and counter group (0: none), and its value's octets, zero past the element.
 pub struct Point {

@@ -44,3 +44,13 @@ triple v = v % 256 ∷ v / 256 % 256 ∷ v / 65536 ∷ []
 unfoldable pub zeros : List ℕ → ℕ → ℕ → Bool
 zeros m at zero = true
 zeros m at (suc n) = eqb (getD m at 0) 0 & zeros m (at + 1) n
+
+-- n octets from `at` as a number
+unfoldable pub number : List ℕ → ℕ → ℕ → ℕ
+number m at zero = 0
+number m at (suc n) = getD m at 0 + 256 * number m (at + 1) n
+
+-- 256 to the e: the first number that e octets cannot hold
+unfoldable pub power : ℕ → ℕ
+power zero = 1
+power (suc e) = 256 * power e

@@ -1,0 +1,53 @@
+use mathlib.Core.Path.{_≡_, refl, sym, ap, _∙_}
+use Prim.Native.Nat.{ℕ, _+_, _*_, _-_, _≤_, _<_}
+use denote.Ref.{now}
+use lib.Dec.{eqb}
+use lib.Bits.{bitOr}
+use Rattle.model.proofs.Within.{spare-is}
+use borrow.Author.Needs.{needs}
+use native.Mathlib.Omega.{arith}
+use Rattle.model.proofs.places.spare_zero.Statement.{statement}
+use Rattle.model.proofs.places.spare_zero.Tie as tie
+
+eight-at-requires : tie.Need-eight-at-requires
+eight-at-requires c κs = search needs
+
+add-eight-at : tie.Need-add-eight-at
+add-eight-at c = search needs
+
+eight-at-requires-2 : tie.Need-eight-at-requires-2
+eight-at-requires-2 c κs = search needs
+
+add-eight-at-2 : tie.Need-add-eight-at-2
+add-eight-at-2 c = search needs
+
+eight-at-requires-3 : tie.Need-eight-at-requires-3
+eight-at-requires-3 c κs = search needs
+
+add-eight-at-3 : tie.Need-add-eight-at-3
+add-eight-at-3 c = search needs
+
+eight-at-requires-4 : tie.Need-eight-at-requires-4
+eight-at-requires-4 c κs = search needs
+
+returns : tie.Need-returns
+returns c =
+    let a = c .before .before .before .before .before .args in
+    let e = c .before .before .before .eight-at .ensures in
+    let f = c .before .before .eight-at2 .ensures in
+    let g = c .before .eight-at3 .ensures in
+    let h = c .eight-at4 .ensures in
+    (λ j. eqb (bitOr (bitOr (e j) (f j)) (bitOr (g j) (h j))) 0) ∙ spare-is (now (a .m)) (a .at)
+
+pub spare-zero-spec : {M : Type 1} → statement M
+spare-zero-spec =
+    tie.close
+    (tie.spec
+    eight-at-requires
+    add-eight-at
+    eight-at-requires-2
+    add-eight-at-2
+    eight-at-requires-3
+    add-eight-at-3
+    eight-at-requires-4
+    returns)

@@ -1,0 +1,15 @@
+use lib.Dec.{leb, eqb}
+use borrow.Author.Tests.{le-leb, lt-leb, eq-eqb, ne-eqb, not-true, not-false}
+use borrow.Author.Needs.{needs}
+use native.Mathlib.Omega.{arith}
+use Rattle.model.proofs.registration.given_group.Statement.{statement}
+use Rattle.model.proofs.registration.given_group.Tie as tie
+
+returns : tie.Need-returns
+returns c = simp (eq-eqb _ _ (c .if1 .taken))
+
+returns-2 : tie.Need-returns-2
+returns-2 c = simp (ne-eqb _ _ (c .if1 .left))
+
+pub given-group-spec : {M : Type 1} → statement M
+given-group-spec = tie.close (tie.spec returns returns-2)

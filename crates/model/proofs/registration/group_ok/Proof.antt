@@ -1,0 +1,30 @@
+use mathlib.Core.Path.{_≡_, refl, sym, ap, _∙_}
+use Prim.Native.Nat.{ℕ, _+_, _*_, _-_, _≤_, _<_}
+use lib.Dec.{leb, eqb}
+use borrow.Author.Tests.{le-leb, lt-leb, eq-eqb, ne-eqb, not-true, not-false}
+use Rattle.limits.specs.Test.{_&_}
+use Rattle.model.specs.Request.{groupOk}
+use borrow.Author.Needs.{needs}
+use native.Mathlib.Omega.{arith}
+use Rattle.model.proofs.registration.group_ok.Statement.{statement}
+use Rattle.model.proofs.registration.group_ok.Tie as tie
+
+enum-told : tie.Need-enum-told
+enum-told c = search needs
+
+enum-known-group : tie.Need-enum-known-group
+enum-known-group c = search needs
+
+returns : tie.Need-returns
+unfolding _&_
+returns c = rw (c .before .before .group .given .1) (simp (lt-leb _ _ (c .if1 .taken)))
+
+returns-2 : tie.Need-returns-2
+returns-2 c = sym (ap (groupOk (c .before .before .args .most)) (c .enum-told .given .1))
+
+returns-3 : tie.Need-returns-3
+unfolding _&_
+returns-3 c = rw (c .before .before .group .given .1) (simp (le-leb _ _ (c .if1 .left)))
+
+pub group-ok-spec : {M : Type 1} → statement M
+group-ok-spec = tie.close (tie.spec enum-told enum-known-group returns returns-2 returns-3)

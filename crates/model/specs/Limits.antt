@@ -1,0 +1,24 @@
+-- The limits of a place by its type, as the code compares numbers of several octets at once: nobody need believe them, `places_ok` is told in `placesOk`.
+use Prim.Native.Nat.{ℕ, _+_, _-_, min}
+use mathlib.Core.List.{List, _++_}
+use lib.Dec.{leb}
+use Rattle.limits.specs.Test.{pick}
+use Rattle.limits.specs.Size.{pointOctets, valuesFrom}
+use Rattle.octets.specs.Number.{power}
+use Rattle.model.specs.Place.{isCounter}
+
+-- the first eight octets of a value, as a number, are at most this
+unfoldable pub firstLimit : ℕ → ℕ
+firstLimit kind = power (min (pointOctets kind) 8) - 1
+
+-- the last four are below this: 0 for a type that is no point's, which none is below
+unfoldable pub lastLimit : ℕ → ℕ
+lastLimit kind = pick (leb 1 (pointOctets kind)) (power (pointOctets kind - 8)) 0
+
+-- the counter group and the octet after it, as a number, are at most this
+unfoldable pub counterLimit : ℕ → ℕ
+counterLimit kind = pick (isCounter kind) 4 0
+
+-- the three limits, each of the types 0 to 40
+unfoldable pub placeLimits : List ℕ
+placeLimits = valuesFrom firstLimit 0 41 ++ (valuesFrom lastLimit 0 41 ++ valuesFrom counterLimit 0 41)
