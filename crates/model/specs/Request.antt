@@ -1,6 +1,6 @@
 -- A point as a caller gives it for registration: the record, its own tests 11 to 15, the point that it becomes, and the flat form of 24 octets.
 -- Document 01, 'Points, stations and shares' and 'Numbers given back'; DESIGN.md, section 5.
-use Prim.Native.Nat.{ℕ, zero, suc, _+_, _-_, _/_}
+use Prim.Native.Nat.{ℕ, zero, suc, _+_, _-_}
 use mathlib.Core.List.{List, [], _∷_, _++_}
 use mathlib.Core.Bool.{Bool, true, false}
 use lib.ListN.{length, take, drop, getD, replicate}
@@ -80,7 +80,3 @@ requestAt m at =
 unfoldable pub requestsAt : List ℕ → ℕ → ℕ → List Request
 requestsAt m at zero = []
 requestsAt m at (suc n) = requestAt m at ∷ requestsAt m (at + 24) n
-
--- the requests of a flat list of records; octets after the last whole one are ignored
-abbrev pub requestsIn : List ℕ → List Request
-requestsIn m = requestsAt m 0 (length m / 24)

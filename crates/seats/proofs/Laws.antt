@@ -18,7 +18,8 @@ use Rattle.table.specs.Change.{stationOf}
 use Rattle.table.proofs.Points.{length-pointsAt, points-complete}
 use Rattle.table.proofs.Stations.{length-bodies}
 use Rattle.table.proofs.Parse.{Good, Laid, holds}
-use Rattle.table.proofs.Change.{Found}
+use Rattle.table.proofs.Cut.{bodies-at, held-at}
+use Rattle.table.proofs.Change.{Found, station-rises}
 use Rattle.table.proofs.Change.Absent.{absent-none, absent-more}
 use Rattle.seats.specs.declared.Seat.{Seat}
 use Rattle.seats.specs.declared.Seat.the-variants.{Here, NotPlanned}
@@ -105,28 +106,6 @@ not-planned ca i pb (s ∷ ss) e = go (eqb (s .ca) ca) e (λ f. not-planned ca (
 
 -- ---- the places of the station
 
--- the places of the stations, cut at one of them
-pub bodies-mid : (xs : List Station) (s : Station) (ys : List Station) → bodies (xs ++ (s ∷ ys)) ≡ bodies xs ++ (placesOf (s .ca) (s .points) ++ bodies ys)
-unfolding bodies
-bodies-mid [] s ys = refl
-bodies-mid (x ∷ xs) s ys =
-    ap (λ (l : List ℕ). placesOf (x .ca) (x .points) ++ l) (bodies-mid xs s ys)
-    ∙ sym (append-assoc (placesOf (x .ca) (x .points)) (bodies xs) (placesOf (s .ca) (s .points) ++ bodies ys))
-
--- a sum over the stations, cut at one of them
-pub total-mid : (f : Station → ℕ) (xs : List Station) (s : Station) (ys : List Station) → total f (xs ++ (s ∷ ys)) ≡ total f xs + (f s + total f ys)
-unfolding total
-total-mid f xs s ys = total-append f xs (s ∷ ys)
-
-rising-mid : (xs : List Station) (s : Station) (ys : List Station) → allRising (xs ++ (s ∷ ys)) ≡ true → rising 0 (s .points) ≡ true
-unfolding allRising
-rising-mid [] s ys t = both _ _ t .0
-rising-mid (x ∷ xs) s ys t = rising-mid xs s ys (both _ _ t .1)
-
--- the points of a station found in a good table rise
-pub station-rises : (t : Table) (ca : ℕ) (s : Station) → Good t → Found ca (t .stations) s → rising 0 (s .points) ≡ true
-station-rises t ca s g w = rising-mid (w .before) s (w .after) (ap allRising (sym (w .split)) ∙ g .rises)
-
 -- The places from a seat found are the station's points, in a memory that holds a good table.
 pub seat-points : (m : List ℕ) (t : Table) (ca i first h : ℕ) → Good t → Laid m t → (d : Seated (t .stations) ca 0 64 i first h)
     → At m first (placesOf ca (d .s .points)) × (pointsAt m first h ≡ d .s .points)
@@ -134,7 +113,7 @@ seat-points m t ca i first h g l d =
     let s : Station = d .s in
     let w = d .found in
     let P : List ℕ = placesOf (s .ca) (s .points) in
-    let b : bodies (t .stations) ≡ bodies (w .before) ++ (P ++ bodies (w .after)) = ap bodies (w .split) ∙ bodies-mid (w .before) s (w .after) in
+    let b : bodies (t .stations) ≡ bodies (w .before) ++ (P ++ bodies (w .after)) = ap bodies (w .split) ∙ bodies-at (w .before) s (w .after) in
     let c : At m 64 (bodies (w .before) ++ (P ++ bodies (w .after))) = subst (λ (x : List ℕ). At m 64 x) b (l .places) in
     let e : At m (64 + 48 * total held (w .before)) (P ++ bodies (w .after)) =
     at-rest m (bodies (w .before)) (P ++ bodies (w .after)) 64 (48 * total held (w .before)) (length-bodies (w .before)) c in
@@ -163,7 +142,7 @@ seat-law m ca i first h o w e =
     let f = d .found in
     let n : two m 8 ≡ total held (t .stations) = gl .1 .is-n in
     let k : two m 6 ≡ length (t .stations) = gl .1 .is-s in
-    let a : total held (t .stations) ≡ total held (f .before) + (held (d .s) + total held (f .after)) = ap (total held) (f .split) ∙ total-mid held (f .before) (d .s) (f .after) in
+    let a : total held (t .stations) ≡ total held (f .before) + (held (d .s) + total held (f .after)) = ap (total held) (f .split) ∙ held-at (f .before) (d .s) (f .after) in
     let c : length (t .stations) ≡ length (f .before) + suc (length (f .after)) = ap length (f .split) ∙ length-append (f .before) (d .s ∷ f .after) in
     let x : i ≡ 0 + length (f .before) = d .index in
     let y : h ≡ held (d .s) = d .count in
