@@ -8,7 +8,7 @@ ghost use mathlib.Core.Path.{_≡_};
 ghost use Prim.Native.Nat.{_+_, _*_, _-_, _≤_, _<_};
 ghost use lib.ListN.{length};
 ghost use Rattle.octets.specs.Number.{two};
-ghost use Rattle.model.specs.Request.{requestsIn};
+ghost use Rattle.records.specs.Records.{requestsIn};
 ghost use Rattle.seats.specs.Seats.{seatAt};
 ghost use Rattle.table.specs.Memory.{tableOf};
 ghost use Rattle.registry.specs.Registry.{admissionOutcome};
@@ -89,14 +89,14 @@ fn turn(m: &[u8], taken: &mut [u16; STATIONS], ca: usize, free: usize, unmet: us
         };
     };
     let k = octets::two_at(m, 4);
-    let before = taken[index];
-    let share = share_with(m, 64 + 48 * k + 8 * index, before);
+    let earlier = taken[index];
+    let share = share_with(m, 64 + 48 * k + 8 * index, earlier);
     let standing = ask(share, free, unmet);
     let outcome = standing.outcome;
     if !outcome.is_done() {
         return standing;
     }
-    taken[index] = before + 1;
+    taken[index] = earlier + 1;
     standing
 }
 

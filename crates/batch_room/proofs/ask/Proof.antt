@@ -1,50 +1,47 @@
 use borrow.Author.Needs.{needs}
-use native.Mathlib.Omega.{arith}
+use mathlib.Core.Path.{_≡_, refl, sym, ap, ap₂, _∙_}
+use Prim.Native.Nat.{_-_}
+use Rattle.registry.specs.Registry.{admissionOutcome}
+use Rattle.limits.specs.Share.{unmetOf}
+use Rattle.batch_room.specs.Room.{standingOf}
 use Rattle.batch_room.proofs.ask.Statement.{statement}
 use Rattle.batch_room.proofs.ask.Tie as tie
-use Rattle.batch_room.proofs.ask.Reads as reads
-use Rattle.batch_room.proofs.ask.Lts as lts
-use Rattle.batch_room.proofs.outcome_of.Reads as outcome-of-reads
-use Rattle.batch_room.proofs.without.Reads as without-reads
-use Rattle.limits.proofs.share.Share.admission.Reads as admission-reads
-use Rattle.limits.proofs.share.Share.take_in.Reads as take-in-reads
-use Rattle.limits.proofs.share.Share.unmet.Reads as unmet-reads
 
--- src/lib.rt:52:9
 admission-requires : tie.Need-admission-requires
 admission-requires c κs = search needs
 
--- src/lib.rt:53:9
 take-in-requires : tie.Need-take-in-requires
 take-in-requires c κs = search needs
 
--- src/lib.rt:54:23
 unmet-requires : tie.Need-unmet-requires
 unmet-requires c κs = search needs
 
--- src/lib.rt:54:38
 unmet-requires-2 : tie.Need-unmet-requires-2
 unmet-requires-2 c κs = search needs
 
--- src/lib.rt:54:9
 without-requires : tie.Need-without-requires
 without-requires c κs = search needs
 
--- src/lib.rt:55:9
 outcome-of-requires : tie.Need-outcome-of-requires
 outcome-of-requires c κs = search needs
 
--- src/lib.rt:58:15
 without-requires-2 : tie.Need-without-requires-2
 without-requires-2 c κs = search needs
 
--- src/lib.rt:59:16
 without-requires-3 : tie.Need-without-requires-3
 without-requires-3 c κs = search needs
 
--- src/lib.rt:49:1
 returns : tie.Need-returns
-returns c = search needs
+unfolding standingOf
+returns c =
+    let a = c .before .before .before .before .before .before .before .before .args in
+    let answer = c .before .before .outcome-of .ensures ∙ ap admissionOutcome (c .before .before .before .before .before .before .before .admission .ensures) in
+    let more = c .before .before .before .before .before .before .take-in .ensures in
+    let lost = c .before .before .before .without .ensures
+      ∙ ap₂ (λ (x y : _). x - y) (c .before .before .before .before .before .unmet .ensures) (c .before .before .before .before .unmet2 .ensures ∙ ap unmetOf more) in
+    let free = c .before .without2 .ensures in
+    let unmet = c .without3 .ensures ∙ ap (λ (x : _). a .unmet - x) lost in
+    (λ j. record { outcome = answer j; free = free j; unmet = unmet j })
 
 pub ask-spec : {M : Type 1} → statement M
 ask-spec =

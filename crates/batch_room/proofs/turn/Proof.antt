@@ -1,90 +1,165 @@
+-- One turn: the share of the request's station with what it took in before, asked once. Assumes nothing.
 use borrow.Author.Needs.{needs}
 use native.Mathlib.Omega.{arith}
+use borrow.Author.Tests.{not-true, not-false}
+use mathlib.Core.Path.{_≡_, sym, ap, _∙_, subst}
+use mathlib.Core.Bool.{true}
+use Prim.Native.Nat.{ℕ, _+_, _*_, _≤_, _<_}
+use denote.Ref.{now}
+use lib.ListN.{length, getD}
+use Rattle.limits.specs.Outcome.{isDone}
+use Rattle.limits.specs.declared.share.Share.{Share}
+use Rattle.octets.specs.Number.{two}
+use Rattle.seats.specs.Seats.{seatAt}
+use Rattle.seats.specs.declared.Seat.the-variants.{Here}
+use Rattle.batch_room.specs.declared.Standing.{Standing}
+use Rattle.batch_room.specs.Room.{shareWith, stationAt, standingOf}
+use Rattle.batch_room.proofs.Laws.{seat-inside, done-below, turn-unplanned, turn-refused, turn-done}
 use Rattle.batch_room.proofs.turn.Statement.{statement}
 use Rattle.batch_room.proofs.turn.Tie as tie
-use Rattle.batch_room.proofs.turn.Reads as reads
-use Rattle.batch_room.proofs.turn.Lts as lts
-use Rattle.batch_room.proofs.ask.Reads as ask-reads
-use Rattle.batch_room.proofs.share_with.Reads as share-with-reads
-use Rattle.limits.proofs.outcome.Outcome.is_done.Reads as is-done-reads
-use Rattle.octets.proofs.two_at.Reads as two-at-reads
-use Rattle.seats.proofs.seat_at.Reads as seat-at-reads
 
--- src/lib.rt:83:9
 seat-at-requires : tie.Need-seat-at-requires
 seat-at-requires c κs = search needs
 
--- src/lib.rt:84:20
 enum-known-seat : tie.Need-enum-known-seat
 enum-known-seat c = search needs
 
--- src/lib.rt:86:22
 enum-told : tie.Need-enum-told
 enum-told c = search needs
 
--- src/lib.rt:85:9
 returns : tie.Need-returns
-returns c = search needs
+returns c =
+    let a = c .before .before .before .before .args in
+    turn-unplanned (now (a .m)) (now (a .taken)) (a .ca) (a .free) (a .unmet) (sym (c .before .before .seat-at .ensures) ∙ c .enum-told .given .1)
 
--- src/lib.rt:91:9
 two-at-requires : tie.Need-two-at-requires
 two-at-requires c κs = search needs
 
--- src/lib.rt:92:18
-mul-before : tie.Need-mul-before
-mul-before c = search needs
+mul-earlier : tie.Need-mul-earlier
+mul-earlier c =
+    let a = c .before .before .before .before .before .before .args in
+    let m = now (a .m) in
+    let g = c .before .before .seat .given in
+    let e : seatAt m (a .ca) ≡ Here (g .0 .0) (g .0 .1 .0) (g .0 .1 .1 .0) = sym (c .before .before .before .before .seat-at .ensures) ∙ g .1 in
+    let i = seat-inside m (a .ca) (g .0 .0) (g .0 .1 .0) (g .0 .1 .1 .0) e in
+    let stations : two m 6 ≤ 64 = c .before .before .before .before .before .before .pre .0 in
+    omega arith
 
--- src/lib.rt:92:18
-element-copy-out-before : tie.Need-element-copy-out-before
-element-copy-out-before c = search needs
+element-copy-out-earlier : tie.Need-element-copy-out-earlier
+element-copy-out-earlier c =
+    let a = c .before .before .before .before .before .before .args in
+    let m = now (a .m) in
+    let g = c .before .before .seat .given in
+    let e : seatAt m (a .ca) ≡ Here (g .0 .0) (g .0 .1 .0) (g .0 .1 .1 .0) = sym (c .before .before .before .before .seat-at .ensures) ∙ g .1 in
+    let i = seat-inside m (a .ca) (g .0 .0) (g .0 .1 .0) (g .0 .1 .1 .0) e in
+    let stations : two m 6 ≤ 64 = c .before .before .before .before .before .before .pre .0 in
+    omega arith
 
--- src/lib.rt:93:36
 mul-share-with : tie.Need-mul-share-with
 mul-share-with c = search needs
 
--- src/lib.rt:93:31
 add-share-with : tie.Need-add-share-with
 add-share-with c = search needs
 
--- src/lib.rt:93:45
 mul-share-with-2 : tie.Need-mul-share-with-2
-mul-share-with-2 c = search needs
+mul-share-with-2 c =
+    let a = c .before .before .before .before .before .before .before .args in
+    let m = now (a .m) in
+    let g = c .before .before .before .seat .given in
+    let e : seatAt m (a .ca) ≡ Here (g .0 .0) (g .0 .1 .0) (g .0 .1 .1 .0) = sym (c .before .before .before .before .before .seat-at .ensures) ∙ g .1 in
+    let i = seat-inside m (a .ca) (g .0 .0) (g .0 .1 .0) (g .0 .1 .1 .0) e in
+    let stations : two m 6 ≤ 64 = c .before .before .before .before .before .before .before .pre .0 in
+    omega arith
 
--- src/lib.rt:93:31
 add-share-with-2 : tie.Need-add-share-with-2
-add-share-with-2 c = search needs
+add-share-with-2 c =
+    let a = c .before .before .before .before .before .before .before .args in
+    let m = now (a .m) in
+    let g = c .before .before .before .seat .given in
+    let e : seatAt m (a .ca) ≡ Here (g .0 .0) (g .0 .1 .0) (g .0 .1 .1 .0) = sym (c .before .before .before .before .before .seat-at .ensures) ∙ g .1 in
+    let i = seat-inside m (a .ca) (g .0 .0) (g .0 .1 .0) (g .0 .1 .1 .0) e in
+    let stations : two m 6 ≤ 64 = c .before .before .before .before .before .before .before .pre .0 in
+    let k = c .before .two-at .ensures .1 in
+    omega arith
 
--- src/lib.rt:93:9
 share-with-requires : tie.Need-share-with-requires
-share-with-requires c κs = search needs
+share-with-requires c κs =
+    let a = c .before .before .before .before .before .before .before .args in
+    let m = now (a .m) in
+    let g = c .before .before .before .seat .given in
+    let e : seatAt m (a .ca) ≡ Here (g .0 .0) (g .0 .1 .0) (g .0 .1 .1 .0) = sym (c .before .before .before .before .before .seat-at .ensures) ∙ g .1 in
+    let i = seat-inside m (a .ca) (g .0 .0) (g .0 .1 .0) (g .0 .1 .1 .0) e in
+    let stations : two m 6 ≤ 64 = c .before .before .before .before .before .before .before .pre .0 in
+    let k : c .before .two-at .result ≡ two m 4 = c .before .two-at .ensures .0 in
+    let room : 64 + 48 * two m 4 + 8 * two m 6 ≤ length m = c .before .before .before .before .before .before .before .pre .1 in
+    omega arith
 
--- src/lib.rt:94:9
 ask-requires : tie.Need-ask-requires
 ask-requires c κs = search needs
 
--- src/lib.rt:96:9
 is-done-requires : tie.Need-is-done-requires
 is-done-requires c κs = search needs
 
--- src/lib.rt:97:9
 returns-2 : tie.Need-returns-2
-returns-2 c = search needs
+returns-2 c =
+    let a = c .before .before .before .before .before .before .before .before .before .before .before .args in
+    let m = now (a .m) in
+    let g = c .before .before .before .before .before .before .before .seat .given in
+    let e : seatAt m (a .ca) ≡ Here (g .0 .0) (g .0 .1 .0) (g .0 .1 .1 .0) = sym (c .before .before .before .before .before .before .before .before .before .seat-at .ensures) ∙ g .1 in
+    let taken = getD (now (a .taken)) (g .0 .0) 0 in
+    let k : c .before .before .before .before .before .two-at .result ≡ two m 4 = c .before .before .before .before .before .two-at .ensures .0 in
+    let s : c .before .before .before .share-with .result ≡ shareWith m (stationAt m (g .0 .0)) taken = c .before .before .before .share-with .ensures .0 ∙ ap (λ (x : ℕ). shareWith m (64 + 48 * x + 8 * g .0 .0) taken) k in
+    let x : c .before .before .ask .result ≡ standingOf (shareWith m (stationAt m (g .0 .0)) taken) (a .free) (a .unmet) = c .before .before .ask .ensures ∙ ap (λ (y : Share). standingOf y (a .free) (a .unmet)) s in
+    turn-refused m (now (a .taken)) (a .ca) (a .free) (a .unmet) (g .0 .0) (g .0 .1 .0) (g .0 .1 .1 .0) e (c .before .before .ask .result) x (sym (c .before .is-done .ensures) ∙ not-true _ (c .if1 .taken))
 
--- src/lib.rt:99:20
 add-taken : tie.Need-add-taken
-add-taken c = search needs
+unfolding shareWith
+add-taken c =
+    let a = c .before .before .before .before .before .before .before .before .before .before .before .args in
+    let m = now (a .m) in
+    let g = c .before .before .before .before .before .before .before .seat .given in
+    let e : seatAt m (a .ca) ≡ Here (g .0 .0) (g .0 .1 .0) (g .0 .1 .1 .0) = sym (c .before .before .before .before .before .before .before .before .before .seat-at .ensures) ∙ g .1 in
+    let taken = getD (now (a .taken)) (g .0 .0) 0 in
+    let k : c .before .before .before .before .before .two-at .result ≡ two m 4 = c .before .before .before .before .before .two-at .ensures .0 in
+    let s : c .before .before .before .share-with .result ≡ shareWith m (stationAt m (g .0 .0)) taken = c .before .before .before .share-with .ensures .0 ∙ ap (λ (x : ℕ). shareWith m (64 + 48 * x + 8 * g .0 .0) taken) k in
+    let x : c .before .before .ask .result ≡ standingOf (shareWith m (stationAt m (g .0 .0)) taken) (a .free) (a .unmet) = c .before .before .ask .ensures ∙ ap (λ (y : Share). standingOf y (a .free) (a .unmet)) s in
+    let d : isDone (c .before .before .ask .result .outcome) ≡ true = sym (c .before .is-done .ensures) ∙ not-false _ (c .if1 .left) in
+    let b : shareWith m (stationAt m (g .0 .0)) taken .held < shareWith m (stationAt m (g .0 .0)) taken .ceiling =
+      done-below (shareWith m (stationAt m (g .0 .0)) taken) (a .free) (a .unmet) (ap (λ (y : Standing). isDone (y .outcome)) (sym x) ∙ d) in
+    let l : shareWith m (stationAt m (g .0 .0)) taken .ceiling < 65536 = subst (λ (y : Share). y .ceiling < 65536) s (c .before .before .before .share-with .ensures .1) in
+    record { fits = omega arith }
 
--- src/lib.rt:99:5
 mul-taken : tie.Need-mul-taken
-mul-taken c = search needs
+mul-taken c =
+    let a = c .before .before .before .before .before .before .before .before .before .before .before .args in
+    let m = now (a .m) in
+    let g = c .before .before .before .before .before .before .before .seat .given in
+    let e : seatAt m (a .ca) ≡ Here (g .0 .0) (g .0 .1 .0) (g .0 .1 .1 .0) = sym (c .before .before .before .before .before .before .before .before .before .seat-at .ensures) ∙ g .1 in
+    let i = seat-inside m (a .ca) (g .0 .0) (g .0 .1 .0) (g .0 .1 .1 .0) e in
+    let stations : two m 6 ≤ 64 = c .before .before .before .before .before .before .before .before .before .before .before .pre .0 in
+    omega arith
 
--- src/lib.rt:99:5
 element-write-taken : tie.Need-element-write-taken
-element-write-taken c = search needs
+element-write-taken c =
+    let a = c .before .before .before .before .before .before .before .before .before .before .before .args in
+    let m = now (a .m) in
+    let g = c .before .before .before .before .before .before .before .seat .given in
+    let e : seatAt m (a .ca) ≡ Here (g .0 .0) (g .0 .1 .0) (g .0 .1 .1 .0) = sym (c .before .before .before .before .before .before .before .before .before .seat-at .ensures) ∙ g .1 in
+    let i = seat-inside m (a .ca) (g .0 .0) (g .0 .1 .0) (g .0 .1 .1 .0) e in
+    let stations : two m 6 ≤ 64 = c .before .before .before .before .before .before .before .before .before .before .before .pre .0 in
+    omega arith
 
--- src/lib.rt:79:1
 returns-3 : tie.Need-returns-3
-returns-3 c = search needs
+returns-3 c =
+    let a = c .before .before .before .before .before .before .before .before .before .before .before .args in
+    let m = now (a .m) in
+    let g = c .before .before .before .before .before .before .before .seat .given in
+    let e : seatAt m (a .ca) ≡ Here (g .0 .0) (g .0 .1 .0) (g .0 .1 .1 .0) = sym (c .before .before .before .before .before .before .before .before .before .seat-at .ensures) ∙ g .1 in
+    let taken = getD (now (a .taken)) (g .0 .0) 0 in
+    let k : c .before .before .before .before .before .two-at .result ≡ two m 4 = c .before .before .before .before .before .two-at .ensures .0 in
+    let s : c .before .before .before .share-with .result ≡ shareWith m (stationAt m (g .0 .0)) taken = c .before .before .before .share-with .ensures .0 ∙ ap (λ (x : ℕ). shareWith m (64 + 48 * x + 8 * g .0 .0) taken) k in
+    let x : c .before .before .ask .result ≡ standingOf (shareWith m (stationAt m (g .0 .0)) taken) (a .free) (a .unmet) = c .before .before .ask .ensures ∙ ap (λ (y : Share). standingOf y (a .free) (a .unmet)) s in
+    turn-done m (now (a .taken)) (a .ca) (a .free) (a .unmet) (g .0 .0) (g .0 .1 .0) (g .0 .1 .1 .0) e (c .before .before .ask .result) x (sym (c .before .is-done .ensures) ∙ not-false _ (c .if1 .left))
 
 pub turn-spec : {M : Type 1} → statement M
 turn-spec =
@@ -95,8 +170,8 @@ turn-spec =
     enum-told
     returns
     two-at-requires
-    mul-before
-    element-copy-out-before
+    mul-earlier
+    element-copy-out-earlier
     mul-share-with
     add-share-with
     mul-share-with-2

@@ -1,58 +1,70 @@
+-- The loop over the records: what is left is the recursion of `roomRun`. Assumes nothing.
 use borrow.Author.Needs.{needs}
 use native.Mathlib.Omega.{arith}
+use borrow.Author.Tests.{not-true, not-false}
+use mathlib.Core.Path.{_≡_, refl, sym, ap, _∙_}
+use Prim.Native.Nat.{ℕ, _+_, _*_, _-_, _≤_}
+use denote.Ref.{now}
+use lib.ListN.{length}
+use Rattle.octets.specs.Number.{two}
+use Rattle.model.specs.Request.{requestsAt}
+use Rattle.records.specs.Records.{requestsIn}
+use Rattle.seats.specs.Seats.{seatAt}
+use Rattle.batch_room.specs.Room.{standingAt, takenAt, roomRun}
+use Rattle.batch_room.proofs.Laws.{run-start, run-on, run-stop, run-end}
 use Rattle.batch_room.proofs.turns.Statement.{statement}
 use Rattle.batch_room.proofs.turns.Tie as tie
-use Rattle.batch_room.proofs.turns.Reads as reads
-use Rattle.batch_room.proofs.turns.Lts as lts
-use Rattle.batch_room.proofs.turn.Reads as turn-reads
-use Rattle.limits.proofs.outcome.Outcome.is_done.Reads as is-done-reads
-use Rattle.octets.proofs.two_at.Reads as two-at-reads
 
 abbrev Inv-loop : tie.InvT-loop
-Inv-loop m records taken₀ free unmet n free-now₀ unmet-now₀ i₀ taken free-now unmet-now i = ?
+Inv-loop m records taken₀ free unmet n free-now₀ unmet-now₀ i₀ taken free-now unmet-now i =
+    (roomRun m taken₀ free unmet 0 (requestsIn records) ≡ roomRun m taken free-now unmet-now i (requestsAt records (24 * i) (n - i)))
+    × (i ≤ n) × (24 * n ≤ length records)
 
 abbrev μ-loop : tie.MeasureT-loop
-μ-loop m records taken₀ free unmet n free-now₀ unmet-now₀ i₀ taken free-now unmet-now i = ?
+μ-loop m records taken₀ free unmet n free-now₀ unmet-now₀ i₀ taken free-now unmet-now i = n - i
 
--- src/lib.rt:112:5
 loop-holds : tie.Need-loop-holds Inv-loop μ-loop
-loop-holds c = search needs
+loop-holds c = (run-start _ _ _ _ _ 0 _, omega arith, omega arith)
 
--- src/lib.rt:113:42
 mul-two-at : tie.Need-mul-two-at Inv-loop μ-loop
 mul-two-at c = search needs
 
--- src/lib.rt:113:13
 two-at-requires : tie.Need-two-at-requires Inv-loop μ-loop
-two-at-requires c κs = search needs
+two-at-requires c κs = omega arith
 
--- src/lib.rt:114:13
 turn-requires : tie.Need-turn-requires Inv-loop μ-loop
 turn-requires c κs = search needs
 
--- src/lib.rt:116:13
 is-done-requires : tie.Need-is-done-requires Inv-loop μ-loop
 is-done-requires c κs = search needs
 
--- src/lib.rt:117:13
 returns : tie.Need-returns Inv-loop μ-loop
-returns c = search needs
+returns c =
+    let a = c .before .before .before .before .before .before .before .before .before .args in
+    let l = c .before .before .before .before .before .before .loop in
+    let k = c .before .before .before .before .two-at .ensures .0 in
+    let t = c .before .before .turn in
+    let s = t .ensures .0 ∙ ap (λ (x : ℕ). standingAt (now (a .m)) (l .taken) (seatAt (now (a .m)) x) (l .free-now) (l .unmet-now)) k in
+    sym (l .inv .0 ∙ run-stop _ _ _ _ _ _ _ (omega arith) (t .result) s (sym (c .before .is-done .ensures) ∙ not-true _ (c .if1 .taken)))
 
--- src/lib.rt:124:9
 add-i : tie.Need-add-i Inv-loop μ-loop
 add-i c = search needs
 
--- src/lib.rt:112:5
 loop-less : tie.Need-loop-less Inv-loop μ-loop
 loop-less c = search needs
 
--- src/lib.rt:112:5
 loop-again : tie.Need-loop-again Inv-loop μ-loop
-loop-again c = search needs
+loop-again c =
+    let a = c .before .before .before .before .before .before .before .before .before .args in
+    let l = c .before .before .before .before .before .before .loop in
+    let k = c .before .before .before .before .two-at .ensures .0 in
+    let t = c .before .before .turn in
+    let s = t .ensures .0 ∙ ap (λ (x : ℕ). standingAt (now (a .m)) (l .taken) (seatAt (now (a .m)) x) (l .free-now) (l .unmet-now)) k in
+    let u = t .ensures .1 ∙ ap (λ (x : ℕ). takenAt (now (a .m)) (l .taken) (seatAt (now (a .m)) x) (l .free-now) (l .unmet-now)) k in
+    (l .inv .0 ∙ run-on _ _ _ _ _ _ _ (omega arith) (t .result) s _ u (sym (c .before .is-done .ensures) ∙ not-false _ (c .if1 .left)), omega arith, omega arith)
 
--- src/lib.rt:104:1
 returns-2 : tie.Need-returns-2 Inv-loop μ-loop
-returns-2 c = search needs
+returns-2 c = let l = c .before .loop in sym (l .inv .0 ∙ run-end _ _ _ _ _ _ _ (omega arith))
 
 pub turns-spec : {M : Type 1} → statement M
 turns-spec =
