@@ -25,7 +25,7 @@ use Rattle.table.proofs.Change.{changed-station, other-station, known-insert}
 use Rattle.registry.specs.Effect.{Effect, firstFault}
 use Rattle.registry.specs.Registry.{isPlanned, isRegistered, admissionOutcome, roomFault, registeredFault, requestOutcome, withRequest, standsIn, batchFault, ownTests, roomTests, registering, registeringAll}
 use Rattle.registry.specs.History.{Twelve, AllTwelve, heldAt, requestsOf}
-use Rattle.registry.proofs.Requests.{Accepted, accepted-good, held-added, planned-is, admitted-is, unregistered-is}
+use Rattle.registry.proofs.Requests.{Accepted, accepted-good, held-added, described, planned-is, admitted-is, unregistered-is}
 
 -- ---- requests that have passed 11 to 17
 
@@ -128,46 +128,45 @@ pub data Turn : Table → List Request → Table → Request → Type 0 where
   turn-later : {t u : Table} {q r : Request} {qs : List Request} → roomFault t (stationOf (q .ca) (t .stations)) ≡ Done → Turn (withRequest t q) qs u r
       → Turn t (q ∷ qs) u r
 
-module _ (described : (q : Request) (planned : Bool) → Twelve q → ownFault planned q ≡ Done → (planned ≡ true) × (pointOk (pointOf q) ≡ true)) where
-  -- A request that passed and has room is accepted.
-  pub passes-accepted : (t : Table) (q : Request) → Twelve q → Passes t q → roomFault t (stationOf (q .ca) (t .stations)) ≡ Done → Accepted t q
-  unfolding isRegistered roomFault
-  passes-accepted t q w p r =
-      let d = described q _ w (p .own) in
-      let s = planned-is (stationOf (q .ca) (t .stations)) (d .0) in
-      record {
-        station = s .0;
-        found = s .1;
-        described = d .1;
-        new = sym (ap (isRegistered (q .ioa)) (s .1)) ∙ p .new;
-        admitted = admitted-is _ (sym (ap (roomFault t) (s .1)) ∙ r);
-      }
+-- A request that passed and has room is accepted.
+pub passes-accepted : (t : Table) (q : Request) → Twelve q → Passes t q → roomFault t (stationOf (q .ca) (t .stations)) ≡ Done → Accepted t q
+unfolding isRegistered roomFault
+passes-accepted t q w p r =
+    let d = described q _ w (p .own) in
+    let s = planned-is (stationOf (q .ca) (t .stations)) (d .0) in
+    record {
+      station = s .0;
+      found = s .1;
+      described = d .1;
+      new = sym (ap (isRegistered (q .ioa)) (s .1)) ∙ p .new;
+      admitted = admitted-is _ (sym (ap (roomFault t) (s .1)) ∙ r);
+    }
 
-  -- At every turn the table is good and the request passes.
-  pub turn-good : (t : Table) (qs : List Request) (u : Table) (r : Request) → Good t → Ready t qs → AllTwelve qs → Turn t qs u r → Good u × Passes u r
-  unfolding AllTwelve
-  turn-good t (q ∷ qs) u r g (ready-more p x y) w turn-now = (g, p)
-  turn-good t (q ∷ qs) u r g (ready-more p x y) w (turn-later d l) =
+-- At every turn the table is good and the request passes.
+pub turn-good : (t : Table) (qs : List Request) (u : Table) (r : Request) → Good t → Ready t qs → AllTwelve qs → Turn t qs u r → Good u × Passes u r
+unfolding AllTwelve
+turn-good t (q ∷ qs) u r g (ready-more p x y) w turn-now = (g, p)
+turn-good t (q ∷ qs) u r g (ready-more p x y) w (turn-later d l) =
+    let a = passes-accepted t q (w .0) p d in
+    turn-good (withRequest t q) qs u r (accepted-good t q g a) (ready-after t q (a .station) qs (a .found) x y) (w .1) l
+
+-- A batch that has room throughout leaves a good table with its points granted, each at its own station.
+pub room-tests-good : (t : Table) (i : ℕ) (qs : List Request) → Good t → Ready t qs → AllTwelve qs → roomTests t i qs .outcome ≡ Done
+    → Good (roomTests t i qs .after) × ((ca : ℕ) → heldAt ca (roomTests t i qs .after) ≡ heldAt ca t + requestsOf ca qs)
+unfolding AllTwelve roomTests requestsOf
+room-tests-good t i [] g r w e = (g, λ ca. omega arith)
+room-tests-good t i (q ∷ qs) g (ready-more p x y) w e =
+    by-test (λ d f.
       let a = passes-accepted t q (w .0) p d in
-      turn-good (withRequest t q) qs u r (accepted-good t q g a) (ready-after t q (a .station) qs (a .found) x y) (w .1) l
-
-  -- A batch that has room throughout leaves a good table with its points granted, each at its own station.
-  pub room-tests-good : (t : Table) (i : ℕ) (qs : List Request) → Good t → Ready t qs → AllTwelve qs → roomTests t i qs .outcome ≡ Done
-      → Good (roomTests t i qs .after) × ((ca : ℕ) → heldAt ca (roomTests t i qs .after) ≡ heldAt ca t + requestsOf ca qs)
-  unfolding AllTwelve roomTests requestsOf
-  room-tests-good t i [] g r w e = (g, λ ca. omega arith)
-  room-tests-good t i (q ∷ qs) g (ready-more p x y) w e =
-      by-test (λ d f.
-        let a = passes-accepted t q (w .0) p d in
-        let ih = room-tests-good (withRequest t q) (i + 1) qs (accepted-good t q g a) (ready-after t q (a .station) qs (a .found) x y) (w .1) f in
-        (ih .0, λ ca. let h = ih .1 ca in let k = held-added t q ca (a .station) (a .found) in omega arith))
-      (isDone (roomFault t (stationOf (q .ca) (t .stations)))) refl e
-    where
-      Goal : Effect → Type 0
-      Goal z = Good (z .after) × ((ca : ℕ) → heldAt ca (z .after) ≡ heldAt ca t + (pick (eqb (q .ca) ca) 1 0 + requestsOf ca qs))
-      by-test : (roomFault t (stationOf (q .ca) (t .stations)) ≡ Done → roomTests (withRequest t q) (i + 1) qs .outcome ≡ Done → Goal (roomTests (withRequest t q) (i + 1) qs))
-          → (b : Bool) → isDone (roomFault t (stationOf (q .ca) (t .stations))) ≡ b
-          → pick b (roomTests (withRequest t q) (i + 1) qs) (record { outcome = roomFault t (stationOf (q .ca) (t .stations)); place = i; after = t }) .outcome ≡ Done
-          → Goal (pick b (roomTests (withRequest t q) (i + 1) qs) (record { outcome = roomFault t (stationOf (q .ca) (t .stations)); place = i; after = t }))
-      by-test ih true d e′ = ih (done-is _ d) e′
-      by-test ih false d e′ = not-both (sym d ∙ ap isDone e′)
+      let ih = room-tests-good (withRequest t q) (i + 1) qs (accepted-good t q g a) (ready-after t q (a .station) qs (a .found) x y) (w .1) f in
+      (ih .0, λ ca. let h = ih .1 ca in let k = held-added t q ca (a .station) (a .found) in omega arith))
+    (isDone (roomFault t (stationOf (q .ca) (t .stations)))) refl e
+  where
+    Goal : Effect → Type 0
+    Goal z = Good (z .after) × ((ca : ℕ) → heldAt ca (z .after) ≡ heldAt ca t + (pick (eqb (q .ca) ca) 1 0 + requestsOf ca qs))
+    by-test : (roomFault t (stationOf (q .ca) (t .stations)) ≡ Done → roomTests (withRequest t q) (i + 1) qs .outcome ≡ Done → Goal (roomTests (withRequest t q) (i + 1) qs))
+        → (b : Bool) → isDone (roomFault t (stationOf (q .ca) (t .stations))) ≡ b
+        → pick b (roomTests (withRequest t q) (i + 1) qs) (record { outcome = roomFault t (stationOf (q .ca) (t .stations)); place = i; after = t }) .outcome ≡ Done
+        → Goal (pick b (roomTests (withRequest t q) (i + 1) qs) (record { outcome = roomFault t (stationOf (q .ca) (t .stations)); place = i; after = t }))
+    by-test ih true d e′ = ih (done-is _ d) e′
+    by-test ih false d e′ = not-both (sym d ∙ ap isDone e′)

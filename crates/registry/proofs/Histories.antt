@@ -214,66 +214,65 @@ module _ (t : Table) (g : Good t) where
           }
       by-test false e = record { is-good = simp e g; plan = simp e (same-plan t); tally = λ other x d h. simp e (omega arith) }
 
-  module _ (described : (q : Request) (planned : Bool) → Twelve q → ownFault planned q ≡ Done → (planned ≡ true) × (pointOk (pointOf q) ≡ true)) where
-    request-accepted : (q : Request) → Twelve q → requestOutcome t q (stationOf (q .ca) (t .stations)) ≡ Done → Accepted t q
-    unfolding requestOutcome
-    request-accepted q w e =
-        let f1 = first-done _ _ e in
-        let f2 = first-done _ _ (f1 .1) in
-        passes-accepted described t q w (record { own = f1 .0; new = unregistered-is q _ (f2 .0) }) (f2 .1)
+  request-accepted : (q : Request) → Twelve q → requestOutcome t q (stationOf (q .ca) (t .stations)) ≡ Done → Accepted t q
+  unfolding requestOutcome
+  request-accepted q w e =
+      let f1 = first-done _ _ e in
+      let f2 = first-done _ _ (f1 .1) in
+      passes-accepted t q w (record { own = f1 .0; new = unregistered-is q _ (f2 .0) }) (f2 .1)
 
-    keeps-in : (q : Request) (w : Twelve q) → Keeps t (register q w)
-    unfolding registering replyFrom _&_
-    keeps-in q w = by-test (isDone (requestOutcome t q (stationOf (q .ca) (t .stations)))) refl
-      where
-        by-test : (b : Bool) → isDone (requestOutcome t q (stationOf (q .ca) (t .stations))) ≡ b → Keeps t (register q w)
-        by-test true e =
-            let a = request-accepted q w (done-is _ e) in
-            record {
-              is-good = simp e (accepted-good t q g a);
-              plan = simp e (added-plan t q);
-              tally = λ other x d h. let k = held-added t q other (a .station) (a .found) in simp e (omega arith);
-            }
-        by-test false e = record { is-good = simp e g; plan = simp e (same-plan t); tally = λ other x d h. simp e (omega arith) }
+  keeps-in : (q : Request) (w : Twelve q) → Keeps t (register q w)
+  unfolding registering replyFrom _&_
+  keeps-in q w = by-test (isDone (requestOutcome t q (stationOf (q .ca) (t .stations)))) refl
+    where
+      by-test : (b : Bool) → isDone (requestOutcome t q (stationOf (q .ca) (t .stations))) ≡ b → Keeps t (register q w)
+      by-test true e =
+          let a = request-accepted q w (done-is _ e) in
+          record {
+            is-good = simp e (accepted-good t q g a);
+            plan = simp e (added-plan t q);
+            tally = λ other x d h. let k = held-added t q other (a .station) (a .found) in simp e (omega arith);
+          }
+      by-test false e = record { is-good = simp e g; plan = simp e (same-plan t); tally = λ other x d h. simp e (omega arith) }
 
-    -- what a batch that was done says
-    batch-done : (qs : List Request) → AllTwelve qs → registeringAll qs t .outcome ≡ Done
-        → Good (registeringAll qs t .after) × SamePlan t (registeringAll qs t .after) × ((ca : ℕ) → heldAt ca (registeringAll qs t .after) ≡ heldAt ca t + requestsOf ca qs)
-    unfolding registeringAll
-    batch-done qs w e = by-test (isDone (ownTests t [] 0 qs .outcome)) refl e
-      where
-        Goal : Effect → Type 0
-        Goal z = Good (z .after) × SamePlan t (z .after) × ((ca : ℕ) → heldAt ca (z .after) ≡ heldAt ca t + requestsOf ca qs)
-        refusal : Effect
-        refusal = record { outcome = ownTests t [] 0 qs .outcome; place = ownTests t [] 0 qs .place; after = t }
-        by-test : (b : Bool) → isDone (ownTests t [] 0 qs .outcome) ≡ b → pick b (roomTests t 0 qs) refusal .outcome ≡ Done → Goal (pick b (roomTests t 0 qs) refusal)
-        by-test true d e′ =
-            let r = own-tests-ready t [] 0 qs (done-is _ d) in
-            let z = room-tests-good described t 0 qs g (r .0) w e′ in
-            (z .0, room-tests-plan t 0 qs, z .1)
-        by-test false d e′ = not-both (sym d ∙ ap isDone e′)
+  -- what a batch that was done says
+  batch-done : (qs : List Request) → AllTwelve qs → registeringAll qs t .outcome ≡ Done
+      → Good (registeringAll qs t .after) × SamePlan t (registeringAll qs t .after) × ((ca : ℕ) → heldAt ca (registeringAll qs t .after) ≡ heldAt ca t + requestsOf ca qs)
+  unfolding registeringAll
+  batch-done qs w e = by-test (isDone (ownTests t [] 0 qs .outcome)) refl e
+    where
+      Goal : Effect → Type 0
+      Goal z = Good (z .after) × SamePlan t (z .after) × ((ca : ℕ) → heldAt ca (z .after) ≡ heldAt ca t + requestsOf ca qs)
+      refusal : Effect
+      refusal = record { outcome = ownTests t [] 0 qs .outcome; place = ownTests t [] 0 qs .place; after = t }
+      by-test : (b : Bool) → isDone (ownTests t [] 0 qs .outcome) ≡ b → pick b (roomTests t 0 qs) refusal .outcome ≡ Done → Goal (pick b (roomTests t 0 qs) refusal)
+      by-test true d e′ =
+          let r = own-tests-ready t [] 0 qs (done-is _ d) in
+          let z = room-tests-good t 0 qs g (r .0) w e′ in
+          (z .0, room-tests-plan t 0 qs, z .1)
+      by-test false d e′ = not-both (sym d ∙ ap isDone e′)
 
-    keeps-batch : (qs : List Request) (w : AllTwelve qs) → Keeps t (registerAll qs w)
-    unfolding replyFrom
-    keeps-batch qs w = by-test (isDone (registeringAll qs t .outcome)) refl
-      where
-        by-test : (b : Bool) → isDone (registeringAll qs t .outcome) ≡ b → Keeps t (registerAll qs w)
-        by-test true e =
-            let z = batch-done qs w (done-is _ e) in
-            record {
-              is-good = simp e (z .0);
-              plan = simp e (z .1);
-              tally = λ other x d h. let k = z .2 other in simp e (omega arith);
-            }
-        by-test false e = record { is-good = simp e g; plan = simp e (same-plan t); tally = λ other x d h. simp e (omega arith) }
+  keeps-batch : (qs : List Request) (w : AllTwelve qs) → Keeps t (registerAll qs w)
+  unfolding replyFrom
+  keeps-batch qs w = by-test (isDone (registeringAll qs t .outcome)) refl
+    where
+      by-test : (b : Bool) → isDone (registeringAll qs t .outcome) ≡ b → Keeps t (registerAll qs w)
+      by-test true e =
+          let z = batch-done qs w (done-is _ e) in
+          record {
+            is-good = simp e (z .0);
+            plan = simp e (z .1);
+            tally = λ other x d h. let k = z .2 other in simp e (omega arith);
+          }
+      by-test false e = record { is-good = simp e g; plan = simp e (same-plan t); tally = λ other x d h. simp e (omega arith) }
 
-    -- Every call keeps the table good, the plan and K, and the tallies.
-    pub keeps : (c : Call) → Keeps t c
-    keeps (register q w) = keeps-in q w
-    keeps (registerAll qs w) = keeps-batch qs w
-    keeps (unregister ca ioa) = keeps-out ca ioa
-    keeps unregisterAll = keeps-all-out
-    keeps (command f w) = keeps-quiet f w
+  -- Every call keeps the table good, the plan and K, and the tallies.
+  pub keeps : (c : Call) → Keeps t c
+  keeps (register q w) = keeps-in q w
+  keeps (registerAll qs w) = keeps-batch qs w
+  keeps (unregister ca ioa) = keeps-out ca ioa
+  keeps unregisterAll = keeps-all-out
+  keeps (command f w) = keeps-quiet f w
 
 -- ---- any calls
 
@@ -286,22 +285,21 @@ pub record After (k : ℕ) (lines : List Line) (m : List ℕ) (tally : ℕ → T
   pub plan : map lineOf (table .stations) ≡ lines
   pub counts : (ca : ℕ) → tally ca .granted ≡ heldAt ca table + tally ca .removed
 
-module _ (described : (q : Request) (planned : Bool) → Twelve q → ownFault planned q ≡ Done → (planned ≡ true) × (pointOk (pointOf q) ≡ true)) where
-  pub history : (k : ℕ) (lines : List Line) (m : List ℕ) (n : ℕ → Tally) (cs : List Call) → After k lines m n
-      → After k lines (memoryAfter m cs) (λ ca. tallyAfter ca (n ca) m cs)
-  unfolding memoryAfter tallyAfter
-  history k lines m n [] a = a
-  history k lines m n (c ∷ cs) a =
-      let t : Table = a .table in
-      let g : Good t = a .is-good in
-      let z = keeps t g described c in
-      let p : replyOn (effectOf c) m ≡ replyFrom (effectOf c) (some t) = ap (replyFrom (effectOf c)) (a .read) in
-      history k lines (memoryOn (effectOf c) m) (λ ca. counted ca c (replyOn (effectOf c) m) (n ca)) cs
-      (record {
-        table = next (effectOf c) t;
-        read = parse-after (effectOf c) m t (a .read) (is-good _ (z .is-good));
-        is-good = z .is-good;
-        capacity = z .plan .capacity ∙ a .capacity;
-        plan = z .plan .lines ∙ a .plan;
-        counts = λ ca. rw p (z .tally ca (n ca .granted) (n ca .removed) (a .counts ca));
-      })
+pub history : (k : ℕ) (lines : List Line) (m : List ℕ) (n : ℕ → Tally) (cs : List Call) → After k lines m n
+    → After k lines (memoryAfter m cs) (λ ca. tallyAfter ca (n ca) m cs)
+unfolding memoryAfter tallyAfter
+history k lines m n [] a = a
+history k lines m n (c ∷ cs) a =
+    let t : Table = a .table in
+    let g : Good t = a .is-good in
+    let z = keeps t g c in
+    let p : replyOn (effectOf c) m ≡ replyFrom (effectOf c) (some t) = ap (replyFrom (effectOf c)) (a .read) in
+    history k lines (memoryOn (effectOf c) m) (λ ca. counted ca c (replyOn (effectOf c) m) (n ca)) cs
+    (record {
+      table = next (effectOf c) t;
+      read = parse-after (effectOf c) m t (a .read) (is-good _ (z .is-good));
+      is-good = z .is-good;
+      capacity = z .plan .capacity ∙ a .capacity;
+      plan = z .plan .lines ∙ a .plan;
+      counts = λ ca. rw p (z .tally ca (n ca .granted) (n ca .removed) (a .counts ca));
+    })

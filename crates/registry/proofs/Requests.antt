@@ -22,6 +22,7 @@ use Rattle.model.specs.declared.Point.{Point}
 use Rattle.model.specs.declared.Request.{Request}
 use Rattle.model.specs.Place.{pointOk}
 use Rattle.model.specs.Request.{ownFault, pointOf}
+use Rattle.model.proofs.Requests.{Faultless, faultless, done-point}
 use Rattle.table.specs.Table.{Station, Table, held, shareOf}
 use Rattle.table.specs.Change.{stationOf, inStation, withPoints, changed, known, insertIn, removeIn, added, removed, emptied}
 use Rattle.table.proofs.Parse.{Good}
@@ -30,6 +31,12 @@ use Rattle.registry.specs.Registry.{isPlanned, isRegistered, admissionOu
 use Rattle.registry.specs.History.{Twelve, heldBy, heldAt}
 
 -- ---- what an accepted request says
+
+-- A record without a fault is planned, and its point is as described.
+pub described : (q : Request) (planned : Bool) → Twelve q → ownFault planned q ≡ Done → (planned ≡ true) × (pointOk (pointOf q) ≡ true)
+described q planned w e =
+    let p : planned ≡ true = faultless planned q e .is-planned in
+    (p, done-point q w (ap (λ (b : Bool). ownFault b q) (sym p) ∙ e))
 
 pub planned-is : (o : Option Station) → isPlanned o ≡ true → (s : Station) × (o ≡ some s)
 unfolding isPlanned

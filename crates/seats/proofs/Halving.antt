@@ -140,7 +140,8 @@ over-seek m at ioa low (suc n) i r h k =
     by-test false e zero h k later again = absurd (omega arith)
     by-test false e (suc i) h k later again = let f = ioa-next m at i in let ih = again i (omega arith) (omega arith) in omega arith
 
-seek-le : (ioa : ℕ) (ps : List Point) → seekIn ioa ps ≤ length ps
+-- The plain search stays inside the list.
+pub seek-le : (ioa : ℕ) (ps : List Point) → seekIn ioa ps ≤ length ps
 unfolding seekIn
 seek-le ioa [] = omega arith
 seek-le ioa (q ∷ qs) = by-test (leb ioa (q .ioa)) (seek-le ioa qs)
@@ -249,11 +250,13 @@ pub record HeldAt (m : List ℕ) (first n ioa at : ℕ) (ps : List Point) : Type
   pub inside : at + 48 ≤ first + 48 * n
   pub is-point : pointIn ioa ps ≡ some (pointAt m at)
 
+-- A point that is not known, and where it would go.
 pub record MissingAt (first n ioa at : ℕ) (ps : List Point) : Type 0 where
   pub not-known : known ioa ps ≡ false
   pub place : at ≡ first + 48 * seekIn ioa ps
   pub inside : at ≤ first + 48 * n
 
+-- A place found holds the point with the IOA.
 pub held-law : (m : List ℕ) (first n ioa at : ℕ) → rising 0 (pointsAt m first n) ≡ true → findAt m first n ioa ≡ Held at
     → HeldAt m first n ioa at (pointsAt m first n)
 unfolding spotIn
@@ -268,6 +271,7 @@ held-law m first n ioa at r e = by-test (known ioa (pointsAt m first n)) refl (s
         record { is-known = k; place = sym p; inside = omega arith; is-point = s .is-point ∙ ap (λ (x : ℕ). some (pointAt m x)) p }
     by-test false k f = let z : _≡_ {A = ℕ} 0 1 = cc in absurd (omega arith)
 
+-- No place found: no point has the IOA.
 pub missing-law : (m : List ℕ) (first n ioa at : ℕ) → rising 0 (pointsAt m first n) ≡ true → findAt m first n ioa ≡ Missing at
     → MissingAt first n ioa at (pointsAt m first n)
 unfolding spotIn

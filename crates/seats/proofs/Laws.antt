@@ -1,6 +1,6 @@
 -- What a seat says of the table: which station it is, and that the places from it are the station's points. Assumes nothing.
 use mathlib.Core.Path.{_≡_, refl, sym, ap, _∙_, subst}
-use mathlib.Core.List.{List, [], _∷_, _++_, append-assoc}
+use mathlib.Core.List.{List, [], _∷_, _++_}
 use mathlib.Core.Bool.{Bool, true, false}
 use mathlib.Core.Option.{none, some}
 use Prim.Native.Nat.{ℕ, zero, suc, _+_, _*_, _≤_, _<_}
@@ -9,12 +9,11 @@ use lib.ListN.{length, length-append}
 use lib.Dec.{eqb}
 use borrow.Author.Tests.{eqb-true, eqb-false}
 use Rattle.limits.specs.Test.{pick, total}
-use Rattle.limits.proofs.Tests.{both, total-append}
 use Rattle.octets.specs.Number.{two, Octets}
 use Rattle.octets.proofs.At.{At, at-fst, at-rest}
-use Rattle.table.specs.Table.{Station, Table, held, allRising, rising, bodies, placesOf}
+use Rattle.table.specs.Table.{Station, Table, held, rising, bodies, placesOf}
 use Rattle.table.specs.Memory.{pointsAt, stationsAt, tableOf, wellFormed}
-use Rattle.table.specs.Change.{stationOf}
+use Rattle.table.specs.Change.{stationOf, seekIn}
 use Rattle.table.proofs.Points.{length-pointsAt, points-complete}
 use Rattle.table.proofs.Stations.{length-bodies}
 use Rattle.table.proofs.Parse.{Good, Laid, holds}
@@ -40,6 +39,7 @@ seat-is m ca i pb sb (suc n) =
     let e : length (pointsAt m pb (two m (sb + 6))) ≡ two m (sb + 6) = length-pointsAt m pb (two m (sb + 6)) in
     rw e (ap (λ (r : Seat). pick (eqb (two m sb) ca) (Here i pb (two m (sb + 6))) r) (seat-is m ca (i + 1) (pb + 48 * two m (sb + 6)) (sb + 8) n))
 
+-- The seat read from memory is the seat in the table that the memory holds.
 pub seat-of : (m : List ℕ) (ca : ℕ) → seatAt m ca ≡ seatOf ca 0 64 (tableOf m .stations)
 unfolding seatAt tableOf
 seat-of m ca = seat-is m ca 0 64 (64 + 48 * two m 4) (two m 6)
@@ -133,6 +133,7 @@ pub record Seen (m : List ℕ) (ca i first h : ℕ) : Type 0 where
   pub places : first + 48 * h ≤ 64 + 48 * two m 8
   pub stations : i < two m 6
 
+-- A seat found in a well-formed memory.
 pub seat-law : (m : List ℕ) (ca i first h : ℕ) → Octets m → wellFormed m ≡ true → seatAt m ca ≡ Here i first h → Seen m ca i first h
 seat-law m ca i first h o w e =
     let gl = holds m o w in
@@ -152,3 +153,17 @@ seat-law m ca i first h o w e =
 -- No seat: the plan has no such station.
 pub absent-law : (m : List ℕ) (ca : ℕ) → seatAt m ca ≡ NotPlanned → stationOf ca (tableOf m .stations) ≡ none
 absent-law m ca e = not-planned ca 0 64 (tableOf m .stations) (sym (seat-of m ca) ∙ e)
+
+-- Where a point of a station stands or would go: the station's index and held, and the place's offset by the points that lie before it.
+pub record Standing (ss : List Station) (ca ioa : ℕ) (s : Station) (w : Found ca ss s) (i h at : ℕ) : Type 0 where
+  pub index : i ≡ length (w .before)
+  pub count : h ≡ held s
+  pub place : at ≡ 64 + 48 * (total held (w .before) + seekIn ioa (s .points))
+
+-- A seat and the plain search of its points give that.
+pub standing : (ss : List Station) (ca ioa i first h at : ℕ) (d : Seated ss ca 0 64 i first h) → at ≡ first + 48 * seekIn ioa (d .s .points)
+    → Standing ss ca ioa (d .s) (d .found) i h at
+standing ss ca ioa i first h at d e =
+    let x : i ≡ 0 + length (d .found .before) = d .index in
+    let z : first ≡ 64 + 48 * total held (d .found .before) = d .place in
+    record { index = omega arith; count = d .count; place = omega arith }

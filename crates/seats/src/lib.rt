@@ -20,17 +20,17 @@ fn seat_from(m: &[u8], ca: usize, at: usize, n: usize) -> Seat
     ensures { λ r. ⌜ r ≡ seatIn (now (m .entry)) ca 0 64 at n ⌝ }
 {
     let mut i: usize = 0;
-    let mut pb: usize = 64;
-    let mut sb = at;
+    let mut place: usize = 64;
+    let mut station = at;
     let mut left = n;
     while 0 < left {
-        let h = octets::two_at(m, sb + 6);
-        if octets::two_at(m, sb) == ca {
-            return Seat::Here(i, pb, h);
+        let h = octets::two_at(m, station + 6);
+        if octets::two_at(m, station) == ca {
+            return Seat::Here(i, place, h);
         }
         i += 1;
-        pb += 48 * h;
-        sb += 8;
+        place += 48 * h;
+        station += 8;
         left -= 1;
     }
     Seat::NotPlanned

@@ -22,6 +22,7 @@ pub head-over : (k s n v : ℕ) (Y : List ℕ) → over (head k s n ++ Y) 8 (pai
 unfolding over
 head-over k s n v Y = refl
 
+-- The places of joined points are joined.
 pub places-append : (ca : ℕ) (xs ys : List Point) → placesOf ca (xs ++ ys) ≡ placesOf ca xs ++ placesOf ca ys
 unfolding placesOf
 places-append ca [] ys = refl
@@ -34,6 +35,7 @@ pub places-at : (ca : ℕ) (below : List Point) (p : Point) (above : List Point)
 unfolding placesOf
 places-at ca below p above = places-append ca below (p ∷ above)
 
+-- The places of all stations, cut at one of them.
 pub bodies-at : (before : List Station) (s : Station) (after : List Station)
     → bodies (before ++ (s ∷ after)) ≡ bodies before ++ (placesOf (s .ca) (s .points) ++ bodies after)
 unfolding bodies
@@ -42,6 +44,7 @@ bodies-at (x ∷ before) s after =
     ap (λ (l : List ℕ). placesOf (x .ca) (x .points) ++ l) (bodies-at before s after)
     ∙ sym (append-assoc (placesOf (x .ca) (x .points)) (bodies before) (placesOf (s .ca) (s .points) ++ bodies after))
 
+-- The stations' octets, cut at one of them.
 pub entries-at : (before : List Station) (s : Station) (after : List Station)
     → entries (before ++ (s ∷ after)) ≡ entries before ++ (eight (s .ca) (s .reservation) (s .ceiling) (held s) ++ entries after)
 unfolding entries
@@ -55,6 +58,7 @@ pub total-at : (f : Station → ℕ) (before : List Station) (s : Station) (afte
 unfolding total
 total-at f before s after = total-append f before (s ∷ after)
 
+-- What all stations hold, cut at one of them.
 pub held-at : (before : List Station) (s : Station) (after : List Station)
     → total held (before ++ (s ∷ after)) ≡ total held before + (held s + total held after)
 held-at before s after = total-at held before s after

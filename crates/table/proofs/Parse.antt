@@ -19,6 +19,7 @@ use Rattle.table.proofs.Stations.{length-stationsAt, sum-reserved, sum-
 
 -- ---- the head
 
+-- The test of the head as facts.
 pub record Head (m : List ℕ) : Type 0 where
   pub long : 64 ≤ length m
   pub mark : markAt m ≡ true
@@ -29,6 +30,7 @@ pub record Head (m : List ℕ) : Type 0 where
   pub room : 64 + 48 * two m 4 + 8 * two m 6 ≤ length m
   pub spare : zeros m 10 54 ≡ true
 
+-- The test of the head tells the facts.
 pub head-is : (m : List ℕ) → headAt m ≡ true → Head m
 unfolding headAt
 head-is m t =
@@ -50,6 +52,7 @@ head-is m t =
       spare = t7 .1;
     }
 
+-- The facts make the test.
 pub is-head : (m : List ℕ) → Head m → headAt m ≡ true
 unfolding headAt
 is-head m h =
@@ -85,6 +88,7 @@ head-back m o h =
 
 -- ---- what passes the test is printed, and good
 
+-- The whole test as facts.
 pub record Passed (m : List ℕ) : Type 0 where
   pub top : Head m
   pub plan : planAt m (two m 4) 1 (64 + 48 * two m 4) (two m 6) ≡ true
@@ -94,16 +98,19 @@ pub record Passed (m : List ℕ) : Type 0 where
   pub places : bodiesAt m 64 (64 + 48 * two m 4) (two m 6) ≡ true
   pub unused : zeros m (64 + 48 * two m 8) (48 * (two m 4 - two m 8)) ≡ true
 
+-- At most K points are held.
 pub few-of : (k r h u : ℕ) → sharesOk k r h u ≡ true → h ≤ k
 unfolding sharesOk
 few-of k r h u t = leb-true _ _ (both _ _ (both _ _ t .1) .0)
 
+-- The test of the stations' numbers as facts.
 pub record Shares (m : List ℕ) (k sb n points : ℕ) : Type 0 where
   pub plan : planAt m k 1 sb n ≡ true
   pub count : points ≡ sumAt heldAt m sb n
   pub shares : sharesOk k (sumAt reservedAt m sb n) points (sumAt unmetAt m sb n) ≡ true
   pub few : points ≤ k
 
+-- That test tells the facts.
 pub shares-is : (m : List ℕ) (k sb n points : ℕ) → sharesAt m k sb n points ≡ true → Shares m k sb n points
 unfolding sharesAt
 shares-is m k sb n points t =
@@ -111,11 +118,13 @@ shares-is m k sb n points t =
     let t3 = both _ _ (t2 .1) in
     record { plan = t2 .0; count = eqb-true _ _ (t3 .0); shares = t3 .1; few = few-of _ _ _ _ (t3 .1) }
 
+-- The facts make that test.
 pub is-shares : (m : List ℕ) (k sb n points : ℕ) → planAt m k 1 sb n ≡ true → points ≡ sumAt heldAt m sb n
     → sharesOk k (sumAt reservedAt m sb n) points (sumAt unmetAt m sb n) ≡ true → sharesAt m k sb n points ≡ true
 unfolding sharesAt
 is-shares m k sb n points a b c = join a (join (eq-eqb _ _ b) c)
 
+-- The whole test tells the facts.
 pub passed : (m : List ℕ) → wellFormed m ≡ true → Passed m
 unfolding wellFormed
 passed m t =
@@ -133,10 +142,12 @@ passed m t =
       unused = t5 .1;
     }
 
+-- The facts make the whole test.
 pub passes : (m : List ℕ) → Passed m → wellFormed m ≡ true
 unfolding wellFormed
 passes m p = join (is-head m (p .top)) (join (is-shares _ _ _ _ _ (p .plan) (p .count) (p .shares)) (join (p .places) (p .unused)))
 
+-- What passes the test is read as a good table.
 pub sound-good : (m : List ℕ) → Octets m → Passed m → good (tableOf m) ≡ true
 unfolding good tableOf
 sound-good m o p =
@@ -155,6 +166,7 @@ sound-good m o p =
     (join (rw l (le-leb _ _ (h .s-low))) (join (rw l (le-leb _ _ (h .s-high)))
     (join (plan-is m k 1 64 sb n ∙ p .plan) (join s (b .1))))))
 
+-- What passes the test starts with the image of the table read.
 pub sound-image : (m : List ℕ) → Octets m → Passed m → At m 0 (image (tableOf m))
 unfolding image tableOf
 sound-image m o p =
@@ -181,6 +193,7 @@ sound-image m o p =
 
 -- ---- every image of a good table passes, and is read back
 
+-- A good table as facts.
 pub record Good (t : Table) : Type 0 where
   pub k-low : 1 ≤ t .capacity
   pub k-high : t .capacity ≤ 4096
@@ -191,6 +204,7 @@ pub record Good (t : Table) : Type 0 where
   pub few : total held (t .stations) ≤ t .capacity
   pub rises : allRising (t .stations) ≡ true
 
+-- The test `good` tells the facts.
 pub good-is : (t : Table) → good t ≡ true → Good t
 unfolding good
 good-is t g =
@@ -211,6 +225,7 @@ good-is t g =
       rises = t6 .1;
     }
 
+-- The facts make `good`.
 pub is-good : (t : Table) → Good t → good t ≡ true
 unfolding good
 is-good t g =
@@ -236,6 +251,7 @@ head-spare : (k s n : ℕ) (Y : List ℕ) → zeros (head k s n ++ Y) 10 54 ≡ 
 unfolding zeros _&_
 head-spare k s n Y = refl
 
+-- A table takes 64 + 48 × K + 8 × stations octets.
 pub length-image : (t : Table) → total held (t .stations) ≤ t .capacity → length (image t) ≡ 64 + 48 * t .capacity + 8 * length (t .stations)
 unfolding image
 length-image t h =
@@ -244,6 +260,7 @@ length-image t h =
     let b : length (entries (t .stations)) ≡ 8 * length (t .stations) = length-entries (t .stations) in
     simp (length-append, length-replicate) (omega arith)
 
+-- The parts of an image lie where the reader looks.
 pub laid : (t : Table) (rest : List ℕ) → Good t → Laid (image t ++ rest) t
 unfolding image
 laid t rest g =
@@ -277,6 +294,7 @@ laid t rest g =
       plan = subst (λ (x : ℕ). At m x (entries ss)) q d;
     }
 
+-- A memory that has the parts of a good table passes the test, and that table is read.
 pub complete : (m : List ℕ) (t : Table) → Good t → Laid m t → Passed m × (tableOf m ≡ t)
 unfolding tableOf
 complete m t g l =
@@ -319,10 +337,12 @@ complete m t g l =
 
 -- ---- parse
 
+-- Parse of what passes the test.
 pub parse-some : (m : List ℕ) → wellFormed m ≡ true → parse m ≡ some (tableOf m)
 unfolding parse
 parse-some m w = simp w
 
+-- Parse of what does not.
 pub parse-none : (m : List ℕ) → wellFormed m ≡ false → parse m ≡ none
 unfolding parse
 parse-none m w = simp w
@@ -357,12 +377,14 @@ holds m o w =
     let g : Good t = good-is t (sound-good m o p) in
     (g, subst (λ (x : List ℕ). Laid x t) (sym (printed m o p)) (laid t (drop (length (image t)) m) g))
 
+-- Every image of a good table is read back, whatever lies after it.
 pub parse-complete : (t : Table) (rest : List ℕ) → good t ≡ true → parse (image t ++ rest) ≡ some t
 parse-complete t rest g =
     let h : Good t = good-is t g in
     let c = complete (image t ++ rest) t h (laid t rest h) in
     parse-some (image t ++ rest) (passes (image t ++ rest) (c .0)) ∙ ap some (c .1)
 
+-- A table read is good, and the memory starts with its image.
 pub parse-sound : (m : List ℕ) (t : Table) → Octets m → parse m ≡ some t → (good t ≡ true) × (m ≡ image t ++ drop (length (image t)) m)
 parse-sound m t o e =
     let w = parsed m t e in

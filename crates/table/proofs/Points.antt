@@ -18,6 +18,7 @@ use Rattle.table.specs.Table.{rising, placesOf}
 use Rattle.table.specs.Memory.{pointsAt}
 use Rattle.octets.proofs.At.{At, at-none, at-join, at-fst, at-snd, at-take, zeros-drop, zeros-are}
 
+-- A part of octets is octets.
 pub octets-drop : (m : List ℕ) (at : ℕ) → Octets m → Octets (drop at m)
 octets-drop m at o i = rw (getD-drop at m i 0) (o (at + i))
 
@@ -26,6 +27,7 @@ unfoldable pub gets : ℕ → ℕ → List ℕ → List ℕ
 gets k zero v = []
 gets k (suc n) v = getD v k 0 ∷ gets (suc k) n v
 
+-- n elements spelt out are a part of the list.
 pub gets-drop : (k n : ℕ) (v : List ℕ) → k + n ≤ length v → gets k n v ≡ take n (drop k v)
 unfolding gets
 gets-drop k zero v h = refl
@@ -79,6 +81,7 @@ place-back l ca low h o t =
     let y = ap (λ (x : ℕ). take 48 ((gets 0 9 l ++ (x ∷ gets 10 12 l)) ++ (replicate 26 0 ++ drop 48 l))) (sym e9) ∙ ap (take 48) v in
     rw (c0, c1, g0, g1, i0, i1, i2) y
 
+-- A place that passes the test is the place of the point read from it.
 pub place-sound : (m : List ℕ) (at ca low : ℕ) → Octets m → at + 48 ≤ length m → placeOk m at ca low ≡ true → At m at (placeOf ca (pointAt m at))
 place-sound m at ca low o h t =
     let l : 48 ≤ length (drop at m) = simp length-drop (omega arith) in
@@ -114,11 +117,13 @@ place-ok m at ca low p f l v a =
 
 -- ---- the points of a station
 
+-- Each point takes 48 octets.
 pub length-places : (ca : ℕ) (ps : List Point) → length (placesOf ca ps) ≡ 48 * length ps
 unfolding placesOf
 length-places ca [] = refl
 length-places ca (p ∷ ps) = let ih : length (placesOf ca ps) ≡ 48 * length ps = length-places ca ps in simp length-append (omega arith)
 
+-- As many points are read as are asked for.
 pub length-pointsAt : (m : List ℕ) (at n : ℕ) → length (pointsAt m at n) ≡ n
 unfolding pointsAt
 length-pointsAt m at zero = refl
@@ -138,6 +143,7 @@ place-good m at ca low o t =
     let t2 = both _ _ (both _ _ t .1) in
     (t2 .0, join (le-leb _ _ (ioa-small m at o)) (join refl (both _ _ (t2 .1) .0)))
 
+-- Places that pass the test are the places of the points read from them, and these rise.
 pub points-sound : (m : List ℕ) (at ca low n : ℕ) → Octets m → at + 48 * n ≤ length m → placesOk m at ca low n ≡ true
     → At m at (placesOf ca (pointsAt m at n)) × (rising low (pointsAt m at n) ≡ true)
 unfolding placesOk pointsAt placesOf rising
@@ -149,6 +155,7 @@ points-sound m at ca low (suc n) o h t =
     let g = place-good m at ca low o (t1 .0) in
     (at-join a (ih .0), join (g .0) (join (g .1) (ih .1)))
 
+-- The places of rising points are read back as these points, and pass the test.
 pub points-complete : (m : List ℕ) (at ca low : ℕ) (ps : List Point) → At m at (placesOf ca ps) → rising low ps ≡ true
     → (pointsAt m at (length ps) ≡ ps) × (placesOk m at ca low (length ps) ≡ true)
 unfolding placesOk pointsAt placesOf rising pointOk

@@ -18,28 +18,33 @@ use Rattle.table.proofs.Points.{octets-drop, gets, gets-drop, length-pl
 
 -- ---- what is read, as of the stations read: no condition
 
+-- As many stations are read as are asked for.
 pub length-stationsAt : (m : List ℕ) (pb sb n : ℕ) → length (stationsAt m pb sb n) ≡ n
 unfolding stationsAt
 length-stationsAt m pb sb zero = refl
 length-stationsAt m pb sb (suc n) = ap suc (length-stationsAt m (pb + 48 * two m (sb + 6)) (sb + 8) n)
 
+-- The reservations read, added up, are those of the stations read.
 pub sum-reserved : (m : List ℕ) (pb sb n : ℕ) → total reserved (stationsAt m pb sb n) ≡ sumAt reservedAt m sb n
 unfolding stationsAt total sumAt
 sum-reserved m pb sb zero = refl
 sum-reserved m pb sb (suc n) = ap (λ (x : ℕ). two m (sb + 2) + x) (sum-reserved m (pb + 48 * two m (sb + 6)) (sb + 8) n)
 
+-- The same of what they hold.
 pub sum-held : (m : List ℕ) (pb sb n : ℕ) → total held (stationsAt m pb sb n) ≡ sumAt heldAt m sb n
 unfolding stationsAt total sumAt
 sum-held m pb sb zero = refl
 sum-held m pb sb (suc n) =
     ap₂ (λ (h x : ℕ). h + x) (length-pointsAt m pb (two m (sb + 6))) (sum-held m (pb + 48 * two m (sb + 6)) (sb + 8) n)
 
+-- The same of their unmet room.
 pub sum-unmet : (m : List ℕ) (pb sb n : ℕ) → total unmet (stationsAt m pb sb n) ≡ sumAt unmetAt m sb n
 unfolding stationsAt total sumAt
 sum-unmet m pb sb zero = refl
 sum-unmet m pb sb (suc n) =
     ap₂ (λ (h x : ℕ). two m (sb + 2) - h + x) (length-pointsAt m pb (two m (sb + 6))) (sum-unmet m (pb + 48 * two m (sb + 6)) (sb + 8) n)
 
+-- The test of the plan in memory is the test of the stations read.
 pub plan-is : (m : List ℕ) (k low pb sb n : ℕ) → planOk k low (stationsAt m pb sb n) ≡ planAt m k low sb n
 unfolding stationsAt planOk planAt
 plan-is m k low pb sb zero = refl
@@ -62,6 +67,7 @@ low-of a b h = omega arith
 high-of : (a b : ℕ) → a < 256 → (a + 256 * b) / 256 ≡ b
 high-of a b h = omega arith
 
+-- Low octet and high octet make the number.
 pub whole : (v : ℕ) → v % 256 + 256 * (v / 256) ≡ v
 whole v = omega arith
 
@@ -74,6 +80,7 @@ eight-back l h o =
     ∷ low-of (getD l 6 0) (getD l 7 0) (o 6) j ∷ high-of (getD l 6 0) (getD l 7 0) (o 6) j ∷ [])
     ∙ gets-drop 0 8 l h
 
+-- Eight octets are those of the four numbers read from them.
 pub eight-sound : (m : List ℕ) (sb : ℕ) → Octets m → sb + 8 ≤ length m → At m sb (eight (two m sb) (two m (sb + 2)) (two m (sb + 4)) (two m (sb + 6)))
 eight-sound m sb o h =
     let l : 8 ≤ length (drop sb m) = simp length-drop (omega arith) in
@@ -82,12 +89,14 @@ eight-sound m sb o h =
     λ j. eight (two-here m sb j) (two-drop m sb 2 j) (two-drop m sb 4 j) (two-drop m sb 6 j) in
     at-take m (eight (two m sb) (two m (sb + 2)) (two m (sb + 4)) (two m (sb + 6))) sb (f ∙ e)
 
+-- The four numbers of a station's eight octets.
 pub record EntryRead (m : List ℕ) (sb ca r c h : ℕ) : Type 0 where
   pub is-ca : two m sb ≡ ca
   pub is-r : two m (sb + 2) ≡ r
   pub is-c : two m (sb + 4) ≡ c
   pub is-h : two m (sb + 6) ≡ h
 
+-- A station's eight octets are read back as its numbers.
 pub eight-read : (m : List ℕ) (sb ca r c h : ℕ) → At m sb (eight ca r c h) → EntryRead m sb ca r c h
 eight-read m sb ca r c h a =
     record {
@@ -99,6 +108,7 @@ eight-read m sb ca r c h a =
 
 -- ---- all of them
 
+-- The places of all stations take 48 octets for each point.
 pub length-bodies : (ss : List Station) → length (bodies ss) ≡ 48 * total held ss
 unfolding bodies total
 length-bodies [] = refl
@@ -107,11 +117,13 @@ length-bodies (s ∷ ss) =
     let ih : length (bodies ss) ≡ 48 * total held ss = length-bodies ss in
     simp length-append (omega arith)
 
+-- The stations take eight octets each.
 pub length-entries : (ss : List Station) → length (entries ss) ≡ 8 * length ss
 unfolding entries
 length-entries [] = refl
 length-entries (s ∷ ss) = let ih : length (entries ss) ≡ 8 * length ss = length-entries ss in omega arith
 
+-- The stations' octets are those of the stations read from them.
 pub entries-sound : (m : List ℕ) (pb sb n : ℕ) → Octets m → sb + 8 * n ≤ length m → At m sb (entries (stationsAt m pb sb n))
 unfolding entries stationsAt
 entries-sound m pb sb zero o h = at-none m sb
@@ -120,6 +132,7 @@ entries-sound m pb sb (suc n) o h =
     let a = subst (λ (x : ℕ). At m sb (eight (two m sb) (two m (sb + 2)) (two m (sb + 4)) x)) (sym e) (eight-sound m sb o (omega arith)) in
     at-next 8 a refl (entries-sound m (pb + 48 * two m (sb + 6)) (sb + 8) n o (omega arith))
 
+-- Places that pass the test are those of the stations read, whose points rise.
 pub bodies-sound : (m : List ℕ) (pb sb n : ℕ) → Octets m → pb + 48 * sumAt heldAt m sb n ≤ length m → bodiesAt m pb sb n ≡ true
     → At m pb (bodies (stationsAt m pb sb n)) × (allRising (stationsAt m pb sb n) ≡ true)
 unfolding bodies stationsAt bodiesAt allRising sumAt
@@ -133,6 +146,7 @@ bodies-sound m pb sb (suc n) o h t =
     length-places (two m sb) (pointsAt m pb k) ∙ ap (λ (x : ℕ). 48 * x) (length-pointsAt m pb k) in
     (at-next (48 * k) (p .0) e (ih .0), join (p .1) (ih .1))
 
+-- The octets of stations whose points rise are read back as these stations, and pass the test.
 pub stations-complete : (m : List ℕ) (pb sb : ℕ) (ss : List Station) → At m pb (bodies ss) → At m sb (entries ss) → allRising ss ≡ true
     → (stationsAt m pb sb (length ss) ≡ ss) × (bodiesAt m pb sb (length ss) ≡ true)
 unfolding bodies entries stationsAt bodiesAt allRising

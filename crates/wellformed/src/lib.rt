@@ -4,7 +4,8 @@ ghost use mathlib.Core.Path.{_≡_};
 ghost use Prim.Native.Nat.{_+_, _*_, _-_, _≤_, _<_};
 ghost use lib.ListN.{length};
 ghost use Rattle.octets.specs.Number.{two};
-ghost use Rattle.wellformed.specs.Station.{shareAt};
+ghost use Rattle.model.specs.Limits.{placeLimits};
+ghost use Rattle.wellformed.specs.Station.{shareAt, placesAt};
 ghost use Rattle.table.specs.Table.{numbersOk, sharesOk};
 ghost use Rattle.table.specs.Memory.{sumAt, reservedAt, heldAt, unmetAt, planAt, bodiesAt, markAt, headAt, sharesAt, wellFormed};
 
@@ -60,7 +61,7 @@ fn head_ok(m: &[u8]) -> bool
 // ---- the plan
 
 // CA from `low` to 65,534, r ≤ c ≤ K, held ≤ c.
-fn numbers_ok(k: usize, low: usize, ca: usize, r: usize, c: usize, h: usize) -> bool
+pub fn numbers_ok(k: usize, low: usize, ca: usize, r: usize, c: usize, h: usize) -> bool
     ensures { λ ok. ⌜ ok ≡ numbersOk k low ca r c h ⌝ }
 {
     if ca < low {
@@ -95,15 +96,15 @@ fn plan_ok(m: &[u8], k: usize, at: usize, n: usize) -> bool
     requires { ⌜ at + 8 * n ≤ length (now m) ⌝ }
     ensures { λ r. ⌜ r ≡ planAt (now (m .entry)) k 1 at n ⌝ }
 {
-    let mut sb = at;
+    let mut station = at;
     let mut low = 1;
     let mut left = n;
     while 0 < left {
-        if !station_ok(m, sb, k, low) {
+        if !station_ok(m, station, k, low) {
             return false;
         }
-        low = octets::two_at(m, sb) + 1;
-        sb += 8;
+        low = octets::two_at(m, station) + 1;
+        station += 8;
         left -= 1;
     }
     true
@@ -138,17 +139,17 @@ pub fn add_up(m: &[u8], at: usize, n: usize) -> Sums
     requires { ⌜ (at + 8 * n ≤ length (now m)) × (n ≤ 64) ⌝ }
     ensures { λ s. ⌜ (s .reserved ≡ sumAt reservedAt (now (m .entry)) at n) × (s .held ≡ sumAt heldAt (now (m .entry)) at n) × (s .unmet ≡ sumAt unmetAt (now (m .entry)) at n) ⌝ }
 {
-    let mut sb = at;
+    let mut station = at;
     let mut left = n;
     let mut reserved: usize = 0;
     let mut held: usize = 0;
     let mut unmet: usize = 0;
     while 0 < left {
-        let s = share_at(m, sb);
+        let s = share_at(m, station);
         reserved += s.reservation;
         held += s.held;
         unmet += s.unmet();
-        sb += 8;
+        station += 8;
         left -= 1;
     }
     Sums {
@@ -172,16 +173,67 @@ fn shares_ok(k: usize, r: usize, h: usize, u: usize) -> bool
 }
 
 // The stations' numbers, and the head's number of points.
-fn plan_and_shares(m: &[u8], k: usize, sb: usize, n: usize, points: usize) -> bool
-    requires { ⌜ (sb + 8 * n ≤ length (now m)) × (n ≤ 64) ⌝ }
-    ensures { λ r. ⌜ r ≡ sharesAt (now (m .entry)) k sb n points ⌝ }
+fn plan_and_shares(m: &[u8], k: usize, at: usize, n: usize, points: usize) -> bool
+    requires { ⌜ (at + 8 * n ≤ length (now m)) × (n ≤ 64) ⌝ }
+    ensures { λ r. ⌜ r ≡ sharesAt (now (m .entry)) k at n points ⌝ }
 {
-    if !plan_ok(m, k, sb, n) {
+    if !plan_ok(m, k, at, n) {
         return false;
     }
-    let s = add_up(m, sb, n);
+    let s = add_up(m, at, n);
     if points != s.held {
         return false;
     }
     shares_ok(k, s.reserved, points, s.unmet)
+}
+
+// ---- the places
+
+// Each station's places, station after station from 64 on. `limits` are those of `place_limits`.
+fn bodies_ok(m: &[u8], at: usize, n: usize, limits: &[usize; 123]) -> bool
+    requires { ⌜ (at + 8 * n ≤ length (now m)) × (64 + 48 * sumAt heldAt (now m) at n ≤ length (now m)) × (now limits ≡ placeLimits) ⌝ }
+    ensures { λ r. ⌜ r ≡ bodiesAt (now (m .entry)) 64 at n ⌝ }
+{
+    let mut place = 64;
+    let mut station = at;
+    let mut left = n;
+    while 0 < left {
+        let ca = octets::two_at(m, station);
+        let h = octets::two_at(m, station + 6);
+        if !model::places_ok(m, place, ca, h, limits) {
+            return false;
+        }
+        place += 48 * h;
+        station += 8;
+        left -= 1;
+    }
+    true
+}
+
+// The places of n stations and the unused places after them.
+fn places_and_unused(m: &[u8], k: usize, n: usize, points: usize) -> bool
+    requires { ⌜ (64 + 48 * k + 8 * n ≤ length (now m)) × (points ≤ k) × (points ≡ sumAt heldAt (now m) (64 + 48 * k) n) ⌝ }
+    ensures { λ r. ⌜ r ≡ placesAt (now (m .entry)) k n points ⌝ }
+{
+    let limits = model::place_limits();
+    if !bodies_ok(m, 64 + 48 * k, n, &limits) {
+        return false;
+    }
+    octets::all_zero(m, 64 + 48 * points, 48 * (k - points))
+}
+
+// Does the memory hold a well-formed table?
+pub fn well_formed(m: &[u8]) -> bool
+    ensures { λ r. ⌜ r ≡ wellFormed (now (m .entry)) ⌝ }
+{
+    if !head_ok(m) {
+        return false;
+    }
+    let k = octets::two_at(m, 4);
+    let n = octets::two_at(m, 6);
+    let points = octets::two_at(m, 8);
+    if !plan_and_shares(m, k, 64 + 48 * k, n, points) {
+        return false;
+    }
+    places_and_unused(m, k, n, points)
 }

@@ -11,10 +11,10 @@ use Rattle.seats.proofs.seat_from.Statement.{statement}
 use Rattle.seats.proofs.seat_from.Tie as tie
 
 abbrev Inv-loop : tie.InvT-loop
-Inv-loop m ca at n i₀ pb₀ sb₀ left₀ i pb sb left = (seatIn m ca 0 64 at n ≡ seatIn m ca i pb sb left) × (sb + 8 * left ≤ length m) × (left ≤ n) × (i ≤ n - left) × (pb ≤ 64 + 48 * (65536 * (n - left)))
+Inv-loop m ca at n i₀ place₀ station₀ left₀ i place station left = (seatIn m ca 0 64 at n ≡ seatIn m ca i place station left) × (station + 8 * left ≤ length m) × (left ≤ n) × (i ≤ n - left) × (place ≤ 64 + 48 * (65536 * (n - left)))
 
 abbrev μ-loop : tie.MeasureT-loop
-μ-loop m ca at n i₀ pb₀ sb₀ left₀ i pb sb left = left
+μ-loop m ca at n i₀ place₀ station₀ left₀ i place station left = left
 
 loop-holds : tie.Need-loop-holds Inv-loop μ-loop
 loop-holds c = (refl, omega arith, omega arith, omega arith, omega arith)
@@ -32,20 +32,20 @@ returns : tie.Need-returns Inv-loop μ-loop
 returns c =
     let m = now (c .before .before .before .before .before .before .args .m) in
     let l = c .before .before .before .before .loop in
-    let h : c .before .before .two-at .result ≡ two m (l .sb + 6) = omega arith in
+    let h : c .before .before .two-at .result ≡ two m (l .station + 6) = omega arith in
     rw h (sym (l .inv .0 ∙ seat-hit _ _ _ _ _ _ (omega arith) (omega arith)))
 
 add-i : tie.Need-add-i Inv-loop μ-loop
 add-i c = search needs
 
-mul-pb : tie.Need-mul-pb Inv-loop μ-loop
-mul-pb c = search needs
+mul-place : tie.Need-mul-place Inv-loop μ-loop
+mul-place c = search needs
 
-add-pb : tie.Need-add-pb Inv-loop μ-loop
-add-pb c = search needs
+add-place : tie.Need-add-place Inv-loop μ-loop
+add-place c = search needs
 
-add-sb : tie.Need-add-sb Inv-loop μ-loop
-add-sb c = search needs
+add-station : tie.Need-add-station Inv-loop μ-loop
+add-station c = search needs
 
 sub-left : tie.Need-sub-left Inv-loop μ-loop
 sub-left c = search needs
@@ -57,7 +57,7 @@ loop-again : tie.Need-loop-again Inv-loop μ-loop
 loop-again c =
     let m = now (c .before .before .before .before .before .before .args .m) in
     let l = c .before .before .before .before .loop in
-    let h : c .before .before .two-at .result ≡ two m (l .sb + 6) = omega arith in
+    let h : c .before .before .two-at .result ≡ two m (l .station + 6) = omega arith in
     (l .inv .0 ∙ seat-on _ _ _ _ _ _ (omega arith) (omega arith) ∙ rw h refl, omega arith, omega arith, omega arith, omega arith)
 
 returns-2 : tie.Need-returns-2 Inv-loop μ-loop
@@ -75,9 +75,9 @@ seat-from-spec =
     two-at-requires-2
     returns
     add-i
-    mul-pb
-    add-pb
-    add-sb
+    mul-place
+    add-place
+    add-station
     sub-left
     loop-less
     loop-again

@@ -13,12 +13,12 @@ use Rattle.wellformed.proofs.add_up.Statement.{statement}
 use Rattle.wellformed.proofs.add_up.Tie as tie
 
 abbrev Inv-loop : tie.InvT-loop
-Inv-loop m at n sb₀ left₀ reserved₀ held₀ unmet₀ sb left reserved held unmet =
-    (sumAt reservedAt m at n ≡ reserved + sumAt reservedAt m sb left) × (sumAt heldAt m at n ≡ held + sumAt heldAt m sb left) × (sumAt unmetAt m at n ≡ unmet + sumAt unmetAt m sb left)
-    × (sb + 8 * left ≤ length m) × (left ≤ n) × (reserved ≤ 65536 * (n - left)) × (held ≤ 65536 * (n - left)) × (unmet ≤ 65536 * (n - left))
+Inv-loop m at n station₀ left₀ reserved₀ held₀ unmet₀ station left reserved held unmet =
+    (sumAt reservedAt m at n ≡ reserved + sumAt reservedAt m station left) × (sumAt heldAt m at n ≡ held + sumAt heldAt m station left) × (sumAt unmetAt m at n ≡ unmet + sumAt unmetAt m station left)
+    × (station + 8 * left ≤ length m) × (left ≤ n) × (reserved ≤ 65536 * (n - left)) × (held ≤ 65536 * (n - left)) × (unmet ≤ 65536 * (n - left))
 
 abbrev μ-loop : tie.MeasureT-loop
-μ-loop m at n sb₀ left₀ reserved₀ held₀ unmet₀ sb left reserved held unmet = left
+μ-loop m at n station₀ left₀ reserved₀ held₀ unmet₀ station left reserved held unmet = left
 
 loop-holds : tie.Need-loop-holds Inv-loop μ-loop
 loop-holds c = (omega arith, omega arith, omega arith, omega arith, omega arith, omega arith, omega arith, omega arith)
@@ -40,8 +40,8 @@ add-unmet c =
     let u = unmet-is (c .before .before .before .share-at .result) in
     omega arith
 
-add-sb : tie.Need-add-sb Inv-loop μ-loop
-add-sb c = search needs
+add-station : tie.Need-add-station Inv-loop μ-loop
+add-station c = search needs
 
 sub-left : tie.Need-sub-left Inv-loop μ-loop
 sub-left c = search needs
@@ -55,21 +55,21 @@ loop-again c =
     let l = c .before .before .before .before .before .loop in
     let s = c .before .before .before .share-at .result in
     let e = c .before .before .before .share-at .ensures .0 in
-    let r : s .reservation ≡ two m (l .sb + 2) = ap (λ (x : Share). x .reservation) e in
-    let h : s .held ≡ two m (l .sb + 6) = ap (λ (x : Share). x .held) e in
+    let r : s .reservation ≡ two m (l .station + 2) = ap (λ (x : Share). x .reservation) e in
+    let h : s .held ≡ two m (l .station + 6) = ap (λ (x : Share). x .held) e in
     let u = unmet-is s in
-    let a = sum-on m (l .sb) (l .left) (omega arith) reservedAt in
-    let b = sum-on m (l .sb) (l .left) (omega arith) heldAt in
-    let d = sum-on m (l .sb) (l .left) (omega arith) unmetAt in
+    let a = sum-on m (l .station) (l .left) (omega arith) reservedAt in
+    let b = sum-on m (l .station) (l .left) (omega arith) heldAt in
+    let d = sum-on m (l .station) (l .left) (omega arith) unmetAt in
     (omega arith, omega arith, omega arith, omega arith, omega arith, omega arith, omega arith, omega arith)
 
 returns : tie.Need-returns Inv-loop μ-loop
 returns c =
     let m = now (c .before .before .before .args .m) in
     let l = c .before .loop in
-    let a = sum-end reservedAt m (l .sb) (l .left) (omega arith) in
-    let b = sum-end heldAt m (l .sb) (l .left) (omega arith) in
-    let d = sum-end unmetAt m (l .sb) (l .left) (omega arith) in
+    let a = sum-end reservedAt m (l .station) (l .left) (omega arith) in
+    let b = sum-end heldAt m (l .station) (l .left) (omega arith) in
+    let d = sum-end unmetAt m (l .station) (l .left) (omega arith) in
     (omega arith, omega arith, omega arith)
 
 pub add-up-spec : {M : Type 1} → statement M
@@ -84,7 +84,7 @@ add-up-spec =
     add-held
     unmet-requires
     add-unmet
-    add-sb
+    add-station
     sub-left
     loop-less
     loop-again

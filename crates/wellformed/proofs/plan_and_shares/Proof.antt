@@ -23,7 +23,7 @@ returns-2 : tie.Need-returns-2
 unfolding sharesAt _&_
 returns-2 c =
     let a = c .before .before .before .before .before .before .args in
-    let q : a .points ≡ sumAt heldAt (now (a .m)) (a .sb) (a .n) → ⊥ = omega arith in
+    let q : a .points ≡ sumAt heldAt (now (a .m)) (a .at) (a .n) → ⊥ = omega arith in
     simp (sym (c .before .before .before .before .plan-ok .ensures) ∙ not-false _ (c .before .before .before .if1 .left), ne-eqb _ _ q)
 
 shares-ok-requires : tie.Need-shares-ok-requires
@@ -33,7 +33,7 @@ returns-3 : tie.Need-returns-3
 unfolding sharesAt _&_
 returns-3 c =
     let a = c .before .before .before .before .before .before .before .args in
-    let q : a .points ≡ sumAt heldAt (now (a .m)) (a .sb) (a .n) = omega arith in
+    let q : a .points ≡ sumAt heldAt (now (a .m)) (a .at) (a .n) = omega arith in
     let s = c .before .before .before .add-up in
     simp (sym (c .before .before .before .before .before .plan-ok .ensures) ∙ not-false _ (c .before .before .before .before .if1 .left), eq-eqb _ _ q) (c .shares-ok .ensures ∙ (λ j. sharesOk (a .k) (s .ensures .0 j) (a .points) (s .ensures .2 j)))
 

@@ -12,10 +12,10 @@ use Rattle.wellformed.proofs.plan_ok.Statement.{statement}
 use Rattle.wellformed.proofs.plan_ok.Tie as tie
 
 abbrev Inv-loop : tie.InvT-loop
-Inv-loop m k at n sb₀ low₀ left₀ sb low left = (planAt m k 1 at n ≡ planAt m k low sb left) × (sb + 8 * left ≤ length m)
+Inv-loop m k at n station₀ low₀ left₀ station low left = (planAt m k 1 at n ≡ planAt m k low station left) × (station + 8 * left ≤ length m)
 
 abbrev μ-loop : tie.MeasureT-loop
-μ-loop m k at n sb₀ low₀ left₀ sb low left = left
+μ-loop m k at n station₀ low₀ left₀ station low left = left
 
 loop-holds : tie.Need-loop-holds Inv-loop μ-loop
 loop-holds c = (refl, omega arith)
@@ -32,8 +32,8 @@ two-at-requires c κs = search needs
 add-low : tie.Need-add-low Inv-loop μ-loop
 add-low c = search needs
 
-add-sb : tie.Need-add-sb Inv-loop μ-loop
-add-sb c = search needs
+add-station : tie.Need-add-station Inv-loop μ-loop
+add-station c = search needs
 
 sub-left : tie.Need-sub-left Inv-loop μ-loop
 sub-left c = search needs
@@ -43,7 +43,7 @@ loop-less c = search needs
 
 loop-again : tie.Need-loop-again Inv-loop μ-loop
 loop-again c =
-    let e : c .two-at .result ≡ two (now (c .before .before .before .before .before .before .args .m)) (c .before .before .before .before .loop .sb) = omega arith in
+    let e : c .two-at .result ≡ two (now (c .before .before .before .before .before .before .args .m)) (c .before .before .before .before .loop .station) = omega arith in
     (c .before .before .before .before .loop .inv .0 ∙ plan-on _ _ _ (omega arith) _ _ (sym (c .before .before .station-ok .ensures) ∙ not-false _ (c .before .if1 .left)) ∙ rw e refl, omega arith)
 
 returns-2 : tie.Need-returns-2 Inv-loop μ-loop
@@ -60,7 +60,7 @@ plan-ok-spec =
     returns
     two-at-requires
     add-low
-    add-sb
+    add-station
     sub-left
     loop-less
     loop-again

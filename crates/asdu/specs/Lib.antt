@@ -1,0 +1,5 @@
+pub mod Identification
+pub mod Cause
+pub mod Header
+pub mod Command
+pub mod Confirmation

@@ -1,0 +1,3 @@
+pub mod Removed
+pub mod Emptied
+pub mod Entry

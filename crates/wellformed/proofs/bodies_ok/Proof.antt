@@ -1,0 +1,106 @@
+use Prim.Native.Nat.{ℕ, _+_, _*_, _-_, _≤_}
+use mathlib.Core.Path.{_≡_, refl, sym, ap, _∙_}
+use denote.Ref.{now}
+use lib.ListN.{length}
+use borrow.Author.Tests.{not-true, not-false}
+use Rattle.octets.specs.Number.{two}
+use Rattle.model.specs.Place.{placesOk}
+use Rattle.table.specs.Memory.{sumAt, heldAt, bodiesAt}
+use Rattle.wellformed.proofs.Turns.{sum-on, bodies-on, bodies-off, bodies-end}
+use borrow.Author.Needs.{needs}
+use native.Mathlib.Omega.{arith}
+use Rattle.wellformed.proofs.bodies_ok.Statement.{statement}
+use Rattle.wellformed.proofs.bodies_ok.Tie as tie
+
+abbrev Inv-loop : tie.InvT-loop
+Inv-loop m at n limits place₀ station₀ left₀ place station left = (bodiesAt m 64 at n ≡ bodiesAt m place station left) × (station + 8 * left ≤ length m) × (place + 48 * sumAt heldAt m station left ≤ length m)
+
+abbrev μ-loop : tie.MeasureT-loop
+μ-loop m at n limits place₀ station₀ left₀ place station left = left
+
+loop-holds : tie.Need-loop-holds Inv-loop μ-loop
+loop-holds c = (refl, omega arith, omega arith)
+
+two-at-requires : tie.Need-two-at-requires Inv-loop μ-loop
+two-at-requires c κs = search needs
+
+add-two-at : tie.Need-add-two-at Inv-loop μ-loop
+add-two-at c = search needs
+
+two-at-requires-2 : tie.Need-two-at-requires-2 Inv-loop μ-loop
+two-at-requires-2 c κs = search needs
+
+places-ok-requires : tie.Need-places-ok-requires Inv-loop μ-loop
+places-ok-requires c κs =
+    let m = now (c .before .before .before .before .before .args .m) in
+    let l = c .before .before .before .loop in
+    let s = sum-on m (l .station) (l .left) (omega arith) heldAt in
+    (omega arith, c .before .before .before .before .before .pre .2)
+
+returns : tie.Need-returns Inv-loop μ-loop
+returns c =
+    let m = now (c .before .before .before .before .before .before .before .args .m) in
+    let l = c .before .before .before .before .before .loop in
+    let s = sum-on m (l .station) (l .left) (omega arith) heldAt in
+    let ca = c .before .before .before .two-at .ensures .0 in
+    let h = c .before .before .two-at2 .ensures .0 in
+    let e : c .before .places-ok .result ≡ placesOk m (l .place) (two m (l .station)) 0 (two m (l .station + 6)) =
+    c .before .places-ok .ensures ∙ (λ j. placesOk m (l .place) (ca j) 0 (h j)) in
+    sym (l .inv .0 ∙ bodies-off m (l .station) (l .left) (omega arith) (l .place) (sym e ∙ not-true _ (c .if1 .taken)))
+
+mul-place : tie.Need-mul-place Inv-loop μ-loop
+mul-place c =
+    let m = now (c .before .before .before .before .before .before .before .args .m) in
+    let l = c .before .before .before .before .before .loop in
+    let s = sum-on m (l .station) (l .left) (omega arith) heldAt in
+    omega arith
+
+add-place : tie.Need-add-place Inv-loop μ-loop
+add-place c =
+    let m = now (c .before .before .before .before .before .before .before .args .m) in
+    let l = c .before .before .before .before .before .loop in
+    let s = sum-on m (l .station) (l .left) (omega arith) heldAt in
+    omega arith
+
+add-station : tie.Need-add-station Inv-loop μ-loop
+add-station c = search needs
+
+sub-left : tie.Need-sub-left Inv-loop μ-loop
+sub-left c = search needs
+
+loop-less : tie.Need-loop-less Inv-loop μ-loop
+loop-less c = search needs
+
+loop-again : tie.Need-loop-again Inv-loop μ-loop
+loop-again c =
+    let m = now (c .before .before .before .before .before .before .before .args .m) in
+    let l = c .before .before .before .before .before .loop in
+    let s = sum-on m (l .station) (l .left) (omega arith) heldAt in
+    let ca = c .before .before .before .two-at .ensures .0 in
+    let h = c .before .before .two-at2 .ensures .0 in
+    let e : c .before .places-ok .result ≡ placesOk m (l .place) (two m (l .station)) 0 (two m (l .station + 6)) =
+    c .before .places-ok .ensures ∙ (λ j. placesOk m (l .place) (ca j) 0 (h j)) in
+    (l .inv .0 ∙ bodies-on m (l .station) (l .left) (omega arith) (l .place) (sym e ∙ not-false _ (c .if1 .left)) ∙ ap (λ (x : ℕ). bodiesAt m (l .place + 48 * x) (l .station + 8) (l .left - 1)) (sym h), omega arith, omega arith)
+
+returns-2 : tie.Need-returns-2 Inv-loop μ-loop
+returns-2 c = sym (c .before .loop .inv .0 ∙ bodies-end _ _ _ _ (omega arith))
+
+pub bodies-ok-spec : {M : Type 1} → statement M
+bodies-ok-spec =
+    tie.close
+    (tie.spec
+    Inv-loop
+    μ-loop
+    loop-holds
+    two-at-requires
+    add-two-at
+    two-at-requires-2
+    places-ok-requires
+    returns
+    mul-place
+    add-place
+    add-station
+    sub-left
+    loop-less
+    loop-again
+    returns-2)
