@@ -1,23 +1,23 @@
 -- What the limits of a place say: a value's octets past its element are zero, and a counter group stands only on a counter. Assumes nothing.
 use mathlib.Core.Path.{_≡_, refl, sym, ap, ap₂, _∙_}
-use mathlib.Core.List.{List, [], _∷_, _++_}
+use mathlib.Core.List.{List, [], _∷_, _++_, append-assoc}
 use mathlib.Core.Bool.{Bool, true, false, _||_}
 use Prim.Native.Nat.{ℕ, zero, suc, _+_, _*_, _-_, _≤_, _<_, min}
 use native.Mathlib.Decide.{decLe}
 use native.Mathlib.Omega.{arith}
-use lib.ListN.{length, getD, List·getD-append}
-use lib.Seq.{getD-append-add}
+use lib.ListN.{length, getD, set, replicate, length-append, length-replicate, List·getD-append}
+use lib.Seq.{getD-append-add, set-at}
 use lib.Dec.{leb, ltb, eqb}
 use borrow.Author.Tests.{leb-true, leb-false, le-leb, lt-leb, ltb-true, ltb-false, lt-ltb, le-ltb, eqb-true, eqb-false, eq-eqb, ne-eqb}
 use Rattle.limits.specs.Test.{_&_, pick}
-use Rattle.limits.specs.Size.{pointOctets, valuesFrom}
+use Rattle.limits.specs.Size.{pointOctets, valuesFrom, pointSizes}
 use Rattle.limits.proofs.Tests.{both, join}
-use Rattle.limits.proofs.Sizes.{length-values, values-at, point-at-most, point-beyond}
+use Rattle.limits.proofs.Sizes.{length-values, values-at, point-at-most, point-sizes}
 use Rattle.octets.specs.Number.{Octets, two, three, four, eight, twelve, zeros, number, power}
 use Rattle.octets.proofs.Zero.{zeros-split}
 use Rattle.octets.proofs.Limit.{below-power, power-positive, four-number, eight-number}
 use Rattle.model.specs.Place.{isCounter}
-use Rattle.model.specs.Limits.{firstLimit, lastLimit, counterLimit, placeLimits}
+use Rattle.model.specs.Limits.{firstOf, lastOf, firstLimit, lastLimit, counterLimit, placeLimits}
 
 -- two tests that follow from each other are one
 pub same : (x y : Bool) → (x ≡ true → y ≡ true) → (y ≡ true → x ≡ true) → x ≡ y
@@ -52,6 +52,77 @@ module _ (k : ℕ) (h : k < 41) where
       ∙ after (k + 41) (valuesFrom firstLimit 0 41) (valuesFrom lastLimit 0 41 ++ valuesFrom counterLimit 0 41) (length-values firstLimit 0 41)
       ∙ after k (valuesFrom lastLimit 0 41) (valuesFrom counterLimit 0 41) (length-values lastLimit 0 41)
       ∙ values-at counterLimit 41 k h
+
+-- ---- how the table is made
+
+-- the limits of the value filled in for the types below n
+unfoldable pub filled : ℕ → List ℕ
+filled n =
+    valuesFrom firstLimit 0 n ++ (replicate (41 - n) 0 ++ (valuesFrom lastLimit 0 n ++ (replicate (41 - n) 0 ++ replicate 41 0)))
+
+-- one value more
+values-more : (f : ℕ → ℕ) (i n : ℕ) → valuesFrom f i (suc n) ≡ valuesFrom f i n ++ (f (i + n) ∷ [])
+unfolding valuesFrom
+values-more f i zero = let z : i ≡ i + 0 = omega arith in ap (λ (x : ℕ). f x ∷ []) z
+values-more f i (suc n) =
+    let e : suc i + n ≡ i + suc n = omega arith in
+    ap (λ (l : List ℕ). f i ∷ l) (values-more f (suc i) n ∙ ap (λ (x : ℕ). valuesFrom f (suc i) n ++ (f x ∷ [])) e)
+
+-- the two stores of a turn, on lists
+two-stores : (F R L Z : List ℕ) (a b n : ℕ) → length F ≡ n → length L ≡ n → n + length R ≡ 40
+    → set (set (F ++ ((0 ∷ R) ++ (L ++ ((0 ∷ R) ++ Z)))) n a) (n + 41) b ≡ (F ++ (a ∷ [])) ++ (R ++ ((L ++ (b ∷ [])) ++ (R ++ Z)))
+two-stores F R L Z a b n e f g =
+    let P : List ℕ = F ++ (a ∷ (R ++ L)) in
+    let one : set (F ++ (0 ∷ (R ++ (L ++ (0 ∷ (R ++ Z)))))) n a ≡ F ++ (a ∷ (R ++ (L ++ (0 ∷ (R ++ Z))))) =
+    set-at F 0 (R ++ (L ++ (0 ∷ (R ++ Z)))) a n e in
+    let w : length P ≡ n + 41 = simp length-append (omega arith) in
+    let two′ : set (P ++ (0 ∷ (R ++ Z))) (n + 41) b ≡ P ++ (b ∷ (R ++ Z)) = set-at P 0 (R ++ Z) b (n + 41) w in
+    let join : (x : List ℕ) → F ++ (a ∷ (R ++ (L ++ x))) ≡ P ++ x = λ x. simp append-assoc in
+    let apart : P ++ (b ∷ (R ++ Z)) ≡ (F ++ (a ∷ [])) ++ (R ++ ((L ++ (b ∷ [])) ++ (R ++ Z))) = simp append-assoc in
+    ap (λ (l : List ℕ). set l (n + 41) b) (one ∙ join (0 ∷ (R ++ Z))) ∙ two′ ∙ apart
+
+filled-more : (n : ℕ) → n < 41 → set (set (filled n) n (firstLimit n)) (n + 41) (lastLimit n) ≡ filled (n + 1)
+unfolding filled
+filled-more n h =
+    let F : List ℕ = valuesFrom firstLimit 0 n in
+    let L : List ℕ = valuesFrom lastLimit 0 n in
+    let R : List ℕ = replicate (40 - n) 0 in
+    let Z : List ℕ = replicate 41 0 in
+    let i : 41 - n ≡ suc (40 - n) = omega arith in
+    let k : n + 1 ≡ suc n = omega arith in
+    let m : 41 - (n + 1) ≡ 40 - n = omega arith in
+    let z : 0 + n ≡ n = omega arith in
+    let r : length (replicate {A = ℕ} (40 - n) 0) ≡ 40 - n = length-replicate {A = ℕ} (40 - n) 0 in
+    let f : valuesFrom firstLimit 0 (n + 1) ≡ F ++ (firstLimit n ∷ []) =
+    ap (valuesFrom firstLimit 0) k ∙ values-more firstLimit 0 n ∙ ap (λ (x : ℕ). F ++ (firstLimit x ∷ [])) z in
+    let l : valuesFrom lastLimit 0 (n + 1) ≡ L ++ (lastLimit n ∷ []) =
+    ap (valuesFrom lastLimit 0) k ∙ values-more lastLimit 0 n ∙ ap (λ (x : ℕ). L ++ (lastLimit x ∷ [])) z in
+    ap (λ (x : ℕ). set (set (F ++ (replicate x 0 ++ (L ++ (replicate x 0 ++ Z)))) n (firstLimit n)) (n + 41) (lastLimit n)) i
+    ∙ two-stores F R L Z (firstLimit n) (lastLimit n) n (length-values firstLimit 0 n) (length-values lastLimit 0 n) (omega arith)
+    ∙ sym (λ j. f j ++ (replicate (m j) 0 ++ (l j ++ (replicate (m j) 0 ++ Z))))
+
+pub filled-none : replicate 123 0 ≡ filled 0
+unfolding filled valuesFrom
+filled-none = refl
+
+-- the table is whole with the two counters
+pub filled-all : set (set (filled 41) 97 4) 119 4 ≡ placeLimits
+unfolding filled placeLimits counterLimit valuesFrom
+filled-all = refl
+
+-- a size read from the list of sizes
+pub size-is : (sizes : List ℕ) (kind size : ℕ) → sizes ≡ pointSizes → size ≡ getD sizes kind 0 → size ≡ pointOctets kind
+size-is sizes kind size e f = f ∙ ap (λ (l : List ℕ). getD l kind 0) e ∙ point-sizes kind
+
+-- a turn of the loop
+pub filled-turn : (l : List ℕ) (n size : ℕ) → l ≡ filled n → n < 41 → size ≡ pointOctets n
+    → set (set l n (getD (valuesFrom firstOf 0 13) size 0)) (n + 41) (getD (valuesFrom lastOf 0 13) size 0) ≡ filled (n + 1)
+unfolding firstLimit lastLimit
+filled-turn l n size e h f =
+    let b : pointOctets n ≤ 12 = point-at-most n in
+    let x : getD (valuesFrom firstOf 0 13) size 0 ≡ firstLimit n = values-at firstOf 13 size (omega arith) ∙ ap firstOf f in
+    let y : getD (valuesFrom lastOf 0 13) size 0 ≡ lastLimit n = values-at lastOf 13 size (omega arith) ∙ ap lastOf f in
+    (λ j. set (set (e j) n (x j)) (n + 41) (y j)) ∙ filled-more n h
 
 -- ---- the value
 
@@ -127,7 +198,7 @@ value-limit m o at e h =
 pub element-limit : (m : List ℕ) → Octets m → (at kind : ℕ)
     → (leb (eight m at) (firstLimit kind) & ltb (four m (at + 8)) (lastLimit kind))
     ≡ (leb 1 (pointOctets kind) & zeros (twelve m at) (pointOctets kind) (12 - pointOctets kind))
-unfolding firstLimit lastLimit
+unfolding firstLimit lastLimit firstOf lastOf
 element-limit m o at kind = value-limit m o at (pointOctets kind) (point-at-most kind)
 
 -- ---- the counter group

@@ -7,13 +7,20 @@ use Rattle.limits.specs.Size.{pointOctets, valuesFrom}
 use Rattle.octets.specs.Number.{power}
 use Rattle.model.specs.Place.{isCounter}
 
--- the first eight octets of a value, as a number, are at most this
-unfoldable pub firstLimit : ℕ → ℕ
-firstLimit kind = power (min (pointOctets kind) 8) - 1
+-- the first eight octets of a value, as a number, are at most this, by the octets of its element
+unfoldable pub firstOf : ℕ → ℕ
+firstOf size = power (min size 8) - 1
 
--- the last four are below this: 0 for a type that is no point's, which none is below
+-- the last four are below this: 0 where there is no element, which none is below
+unfoldable pub lastOf : ℕ → ℕ
+lastOf size = pick (leb 1 size) (power (size - 8)) 0
+
+-- the same by the type
+unfoldable pub firstLimit : ℕ → ℕ
+firstLimit kind = firstOf (pointOctets kind)
+
 unfoldable pub lastLimit : ℕ → ℕ
-lastLimit kind = pick (leb 1 (pointOctets kind)) (power (pointOctets kind - 8)) 0
+lastLimit kind = lastOf (pointOctets kind)
 
 -- the counter group and the octet after it, as a number, are at most this
 unfoldable pub counterLimit : ℕ → ℕ

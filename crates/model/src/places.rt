@@ -7,140 +7,46 @@ ghost use Rattle.model.specs.Place.{placeOk, placesOk};
 ghost use Rattle.model.specs.Limits.{placeLimits};
 
 // The types from 0 to the last that is a point's.
-const TYPES: usize = 41;
+const TYPES: usize = limits::size::POINT_KINDS_END;
 
-// The limits of a place by its type: of the first eight octets of the value, of the last four, and of the counter group.
-const LIMITS: [usize; 123] = [
+// What the first eight octets of a value, as a number, are at most, by the octets of its element.
+const FIRST: [usize; 13] = [
     0,
     255,
-    4294967295,
-    255,
-    4294967295,
     65535,
-    1099511627775,
-    1099511627775,
-    0,
     16777215,
-    281474976710655,
-    16777215,
-    281474976710655,
+    4294967295,
     1099511627775,
-    18446744073709551615,
-    1099511627775,
-    0,
     281474976710655,
     72057594037927935,
-    72057594037927935,
-    1099511627775,
-    65535,
-    0,
-    0,
-    0,
-    0,
-    0,
-    0,
-    0,
-    0,
     18446744073709551615,
     18446744073709551615,
     18446744073709551615,
     18446744073709551615,
     18446744073709551615,
-    18446744073709551615,
-    18446744073709551615,
-    18446744073709551615,
-    18446744073709551615,
-    18446744073709551615,
-    18446744073709551615,
-    0,
-    1,
-    1,
-    1,
-    1,
-    1,
-    1,
-    1,
-    0,
-    1,
-    1,
-    1,
-    1,
-    1,
-    1,
-    1,
-    0,
-    1,
-    1,
-    1,
-    1,
-    1,
-    0,
-    0,
-    0,
-    0,
-    0,
-    0,
-    0,
-    0,
-    1,
-    1,
-    256,
-    4294967296,
-    65536,
-    65536,
-    4294967296,
-    4294967296,
-    65536,
-    16777216,
-    16777216,
-    0,
-    0,
-    0,
-    0,
-    0,
-    0,
-    0,
-    0,
-    0,
-    0,
-    0,
-    0,
-    0,
-    0,
-    0,
-    4,
-    0,
-    0,
-    0,
-    0,
-    0,
-    0,
-    0,
-    0,
-    0,
-    0,
-    0,
-    0,
-    0,
-    0,
-    0,
-    0,
-    0,
-    0,
-    0,
-    0,
-    0,
-    4,
-    0,
-    0,
-    0,
 ];
 
-// The limits of a place, to be made once and lent to `places_ok`.
+// What the last four are below, by the octets of its element: none is where there is no element.
+const LAST: [usize; 13] = [0, 1, 1, 1, 1, 1, 1, 1, 1, 256, 65536, 16777216, 4294967296];
+
+// The limits of a place by its type, to be made once and lent to `places_ok`: of the first eight octets of the value, of the last four, and of the counter group.
 pub fn place_limits() -> [usize; 123]
     ensures { λ r. ⌜ r ≡ placeLimits ⌝ }
 {
-    LIMITS
+    let sizes = limits::size::point_sizes();
+    let first = FIRST;
+    let last = LAST;
+    let mut limits = [0usize; 123];
+    let mut kind = 0;
+    while kind < TYPES {
+        let size = octets::wide(sizes[kind]);
+        limits[kind] = first[size];
+        limits[kind + TYPES] = last[size];
+        kind += 1;
+    }
+    limits[15 + 2 * TYPES] = 4;
+    limits[37 + 2 * TYPES] = 4;
+    limits
 }
 
 // Are the 26 octets from `at` zero? Four numbers, of which the last two overlap.

@@ -36,13 +36,6 @@ unfolding _&_
 and-true true = refl
 and-true false = refl
 
-pub and-comm : (a b : Bool) → (a & b) ≡ (b & a)
-unfolding _&_
-and-comm true true = refl
-and-comm true false = refl
-and-comm false true = refl
-and-comm false false = refl
-
 -- the turn and the end of `all_zero`
 pub any-on : (m : List ℕ) (x i n : ℕ) → 0 < n → (eqb x 0 & zeros m i n) ≡ (eqb (bitOr x (getD m i 0)) 0 & zeros m (i + 1) (n - 1))
 unfolding zeros

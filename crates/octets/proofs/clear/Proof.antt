@@ -1,3 +1,4 @@
+-- A turn lays one zero more over the memory: a copy of zeros, octet by octet.
 use mathlib.Core.Path.{_≡_, refl, sym, ap, _∙_}
 use Prim.Native.Nat.{ℕ, _+_, _-_, _≤_, _<_}
 use denote.Ref.{now}

@@ -1,3 +1,4 @@
+-- A turn lays one octet more of what lies `by` higher over the memory; what is still to be read is as it was.
 use mathlib.Core.Path.{_≡_, refl, sym, ap, _∙_}
 use Prim.Native.Nat.{ℕ, _+_, _-_, _≤_, _<_}
 use denote.Ref.{now}

@@ -1,3 +1,4 @@
+-- Each field is read where the place has it.
 use borrow.Author.Needs.{needs}
 use native.Mathlib.Omega.{arith}
 use Rattle.model.proofs.place.point_at.Statement.{statement}

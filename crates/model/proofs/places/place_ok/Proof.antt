@@ -1,3 +1,4 @@
+-- A test that fails contradicts what a good place is within; where all pass, the spare octets decide.
 use mathlib.Core.Path.{_≡_, refl, sym, ap, _∙_}
 use Prim.Native.Nat.{ℕ, _+_, _*_, _-_, _≤_, _<_}
 use denote.Ref.{now}

@@ -1,3 +1,4 @@
+-- The OR of four numbers, which cover the 26 octets, is zero exactly if these are.
 use mathlib.Core.Path.{_≡_, refl, sym, ap, _∙_}
 use Prim.Native.Nat.{ℕ, _+_, _*_, _-_, _≤_, _<_}
 use denote.Ref.{now}

@@ -1,3 +1,4 @@
+-- By the cases of the group.
 use mathlib.Core.Path.{_≡_, refl, sym, ap, _∙_}
 use Prim.Native.Nat.{ℕ, _+_, _*_, _-_, _≤_, _<_}
 use lib.Dec.{leb, eqb}
@@ -17,14 +18,20 @@ enum-known-group c = search needs
 
 returns : tie.Need-returns
 unfolding _&_
-returns c = rw (c .before .before .group .given .1) (simp (lt-leb _ _ (c .if1 .taken)))
+returns c =
+    let g : ℕ = c .before .before .group .given .0 .0 in
+    let h : g < 1 = omega arith in
+    rw (c .before .before .group .given .1) (simp (lt-leb 1 g h))
 
 returns-2 : tie.Need-returns-2
 returns-2 c = sym (ap (groupOk (c .before .before .args .most)) (c .enum-told .given .1))
 
 returns-3 : tie.Need-returns-3
 unfolding _&_
-returns-3 c = rw (c .before .before .group .given .1) (simp (le-leb _ _ (c .if1 .left)))
+returns-3 c =
+    let g : ℕ = c .before .before .group .given .0 .0 in
+    let h : 1 ≤ g = omega arith in
+    rw (c .before .before .group .given .1) (simp (le-leb 1 g h))
 
 pub group-ok-spec : {M : Type 1} → statement M
 group-ok-spec = tie.close (tie.spec enum-told enum-known-group returns returns-2 returns-3)

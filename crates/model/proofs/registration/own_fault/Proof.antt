@@ -1,3 +1,4 @@
+-- Each return is the first test that fails, those before it having passed.
 use mathlib.Core.Path.{_≡_, refl, sym, ap, _∙_}
 use Prim.Native.Nat.{ℕ, _+_, _*_, _-_, _≤_, _<_}
 use lib.Dec.{leb, eqb}

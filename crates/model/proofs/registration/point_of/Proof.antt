@@ -1,3 +1,4 @@
+-- Field by field, from what the callees promise.
 use Rattle.model.specs.Request.{pointOf}
 use borrow.Author.Needs.{needs}
 use native.Mathlib.Omega.{arith}

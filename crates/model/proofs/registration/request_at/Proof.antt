@@ -1,3 +1,4 @@
+-- Each field is read where the record has it.
 use borrow.Author.Needs.{needs}
 use native.Mathlib.Omega.{arith}
 use Rattle.model.proofs.registration.request_at.Statement.{statement}

@@ -1,0 +1,203 @@
+-- Registration of one point, as the code goes: each way out gives the number and the memory that the effect on the table says. Assumes nothing.
+use mathlib.Core.Path.{_≡_, refl, sym, ap, ap₂, _∙_, subst}
+use mathlib.Core.List.{List, [], _∷_, _++_, map}
+use mathlib.Core.Bool.{Bool, true, false}
+use mathlib.Core.Option.{Option, none, some}
+use Prim.Native.Nat.{ℕ, _+_, _*_, _≤_, _<_}
+use native.Mathlib.Omega.{arith}
+use lib.ListN.{length, drop}
+use Rattle.limits.specs.Test.{_&_, pick, total}
+use Rattle.limits.specs.Outcome.{isDone}
+use Rattle.limits.specs.Share.{admissionIn, heldOf, unmetOf, freeOf, Sound}
+use Rattle.limits.specs.declared.share.Share.{Share}
+use Rattle.limits.specs.declared.share.Admission.the-variants.{Admitted}
+use Rattle.limits.specs.declared.outcome.Outcome.{Outcome}
+use Rattle.limits.specs.declared.outcome.Outcome.the-variants.{Done, AlreadyRegistered, TableNotWellFormed}
+use Rattle.limits.proofs.Outcomes.{not-both, done-is, first-done}
+use Rattle.limits.proofs.Shares.{admitted-has-place}
+use Rattle.octets.specs.Number.{two, Octets}
+use Rattle.model.specs.declared.Request.{Request}
+use Rattle.model.specs.Request.{ownFault, pointOf}
+use Rattle.model.proofs.Requests.{Unplanned, unplanned, faultless, point-address}
+use Rattle.model.proofs.Requests.Unplanned.{unknown, station}
+use Rattle.table.specs.Table.{Station, Table, held, shareOf, image}
+use Rattle.table.specs.Memory.{tableOf, wellFormed, parse}
+use Rattle.table.specs.Change.{stationOf, seekIn, known, added}
+use Rattle.table.proofs.Parse.{Good, holds, parse-some, parse-none}
+use Rattle.table.proofs.Shares.{good-sound, total-held}
+use Rattle.table.proofs.Change.{Found, shares-split}
+use Rattle.seats.specs.declared.Seat.the-variants.{Here, NotPlanned}
+use Rattle.seats.specs.declared.Spot.{Spot}
+use Rattle.seats.specs.declared.Spot.the-variants.{Held, Missing}
+use Rattle.seats.specs.Seats.{seatAt}
+use Rattle.seats.specs.Find.{findAt}
+use Rattle.seats.proofs.Laws.{Seated, Seen, seat-law, absent-law, Standing, standing}
+use Rattle.seats.proofs.Halving.{held-law, missing-law}
+use Rattle.insert.specs.Insert.{placed}
+use Rattle.insert.proofs.Laws.{insert-parsed, insert-bounds}
+use Rattle.registry.specs.declared.Reply.{Reply}
+use Rattle.registry.specs.Effect.{Effect, firstFault, holding, replyFrom, memoryFrom, replyOn, memoryOn}
+use Rattle.registry.specs.Registry.{isPlanned, isRegistered, roomFault, registeredFault, requestOutcome, withRequest, registering}
+use Rattle.registry.proofs.Requests.{admitted-is}
+use Rattle.actor.specs.Actor.{reply, roomAt, spotFault, seatFault, offsetOf}
+use Rattle.actor.proofs.Rooms.{room-law}
+
+-- The number and the memory of an entry, together.
+pub record Ends (f : Table → Effect) (m : List ℕ) (r : Reply) (m′ : List ℕ) : Type 0 where
+  pub replies : r ≡ replyOn f m
+  pub leaves : m′ ≡ memoryOn f m
+
+-- The two equations of a contract.
+pub ends : (f : Table → Effect) (m : List ℕ) (r : Reply) (m′ : List ℕ) → Ends f m r m′ → (r ≡ replyOn f m) × (m′ ≡ memoryOn f m)
+ends f m r m′ e = (e .replies, e .leaves)
+
+-- No table: 3.
+pub ends-no-table : (f : Table → Effect) (m : List ℕ) → wellFormed m ≡ false → Ends f m (reply TableNotWellFormed) m
+unfolding replyFrom memoryFrom
+ends-no-table f m w =
+    let p : parse m ≡ none = parse-none m w in
+    record { replies = ap (replyFrom f) (sym p); leaves = ap (memoryFrom f m) (sym p) }
+
+module _ (f : Table → Effect) (m : List ℕ) (w : wellFormed m ≡ true) where
+  -- A refusal of the table's own.
+  pub ends-refused : (o : Outcome) → f (tableOf m) .outcome ≡ o → f (tableOf m) .place ≡ 0 → isDone o ≡ false → Ends f m (reply o) m
+  unfolding replyFrom memoryFrom
+  ends-refused o e z d =
+      let p : parse m ≡ some (tableOf m) = parse-some m w in
+      let d′ : isDone (f (tableOf m) .outcome) ≡ false = ap isDone e ∙ d in
+      record {
+        replies = (λ j. record { outcome = sym e j; place = sym z j }) ∙ ap (replyFrom f) (sym p);
+        leaves = sym (ap (memoryFrom f m) p ∙ simp d′);
+      }
+
+  -- Done, with the table after it stored.
+  pub ends-done : (n : ℕ) (m′ : List ℕ) → f (tableOf m) .outcome ≡ Done → f (tableOf m) .place ≡ n
+      → m′ ≡ holding m (tableOf m) (f (tableOf m) .after) → Ends f m (record { outcome = Done; place = n }) m′
+  unfolding replyFrom memoryFrom
+  ends-done n m′ e z s =
+      let p : parse m ≡ some (tableOf m) = parse-some m w in
+      let d : isDone (f (tableOf m) .outcome) ≡ true = ap isDone e in
+      record {
+        replies = (λ j. record { outcome = sym e j; place = sym z j }) ∙ ap (replyFrom f) (sym p);
+        leaves = s ∙ sym (ap (memoryFrom f m) p ∙ simp d);
+      }
+
+-- ---- registration
+
+first-first : (a b c : Outcome) → firstFault a (firstFault b c) ≡ firstFault (firstFault a b) c
+first-first a b c = by-test (isDone a) refl
+  where
+    by-test : (x : Bool) → isDone a ≡ x → firstFault a (firstFault b c) ≡ firstFault (firstFault a b) c
+    by-test true e = simp e
+    by-test false e = simp e
+
+not-done : (o : Outcome) → Unplanned o → isDone o ≡ false
+not-done o (unknown e) = ap isDone e
+not-done o (station e) = ap isDone e
+
+module _ (m : List ℕ) (o : Octets m) (w : wellFormed m ≡ true) (q : Request) where
+  -- The plan has no such station: 11 or 12.
+  pub register-absent : seatAt m (q .ca) ≡ NotPlanned → Ends (registering q) m (reply (ownFault false q)) m
+  unfolding registering requestOutcome isPlanned
+  register-absent e =
+      let s : stationOf (q .ca) (tableOf m .stations) ≡ none = absent-law m (q .ca) e in
+      let d : isDone (ownFault false q) ≡ false = not-done _ (unplanned q) in
+      ends-refused (registering q) m w (ownFault false q) (ap (requestOutcome (tableOf m) q) s ∙ simp d) refl d
+
+  module _ (i first h : ℕ) (e : seatAt m (q .ca) ≡ Here i first h) where
+    -- 17 as the code finds it
+    spot-law : spotFault (findAt m first h (q .ioa)) ≡ registeredFault q (some (seat-law m (q .ca) i first h o w e .seat .s))
+    unfolding isRegistered
+    spot-law = by-spot (findAt m first h (q .ioa)) refl
+      where
+        by-spot : (x : Spot) → findAt m first h (q .ioa) ≡ x → spotFault x ≡ registeredFault q (some (seat-law m (q .ca) i first h o w e .seat .s))
+        by-spot (Held at) p =
+            let z = seat-law m (q .ca) i first h o w e in
+            let k : known (q .ioa) (z .seat .s .points) ≡ true =
+              ap (known (q .ioa)) (sym (z .points)) ∙ held-law m first h (q .ioa) at (rw (z .points) (z .rises)) p .is-known in
+            simp k
+        by-spot (Missing at) p =
+            let z = seat-law m (q .ca) i first h o w e in
+            let k : known (q .ioa) (z .seat .s .points) ≡ false =
+              ap (known (q .ioa)) (sym (z .points)) ∙ missing-law m first h (q .ioa) at (rw (z .points) (z .rises)) p .not-known in
+            simp k
+
+    -- the outcome, as the code puts it together
+    outcome-law : requestOutcome (tableOf m) q (stationOf (q .ca) (tableOf m .stations)) ≡ firstFault (seatFault q (findAt m first h (q .ioa))) (roomAt m i)
+    unfolding requestOutcome isPlanned seatFault
+    outcome-law =
+        let z = seat-law m (q .ca) i first h o w e in
+        let s : stationOf (q .ca) (tableOf m .stations) ≡ some (z .seat .s) = z .seat .is-station in
+        let r : roomAt m i ≡ roomFault (tableOf m) (some (z .seat .s)) = room-law m o w (q .ca) i first h e ∙ ap (roomFault (tableOf m)) s in
+        ap (requestOutcome (tableOf m) q) s
+        ∙ (λ j. firstFault (ownFault true q) (firstFault (sym spot-law j) (sym r j)))
+        ∙ first-first (ownFault true q) (spotFault (findAt m first h (q .ioa))) (roomAt m i)
+
+    -- Refused by its own tests: 11, 13 to 15, 17.
+    pub register-own : isDone (seatFault q (findAt m first h (q .ioa))) ≡ false → Ends (registering q) m (reply (seatFault q (findAt m first h (q .ioa)))) m
+    unfolding registering
+    register-own d = ends-refused (registering q) m w _ (outcome-law ∙ simp d) refl d
+
+    -- Refused for room: 19, 20.
+    pub register-room : isDone (seatFault q (findAt m first h (q .ioa))) ≡ true → isDone (roomAt m i) ≡ false → Ends (registering q) m (reply (roomAt m i)) m
+    unfolding registering
+    register-room d r = ends-refused (registering q) m w _ (outcome-law ∙ simp d) refl r
+
+    -- whoever has room finds a free place
+    room-place : roomAt m i ≡ Done → total held (tableOf m .stations) < tableOf m .capacity
+    unfolding roomFault
+    room-place r =
+        let z = seat-law m (q .ca) i first h o w e in
+        let t : Table = tableOf m in
+        let g : Good t = holds m o w .0 in
+        let s : Station = z .seat .s in
+        let f = z .seat .found in
+        let k : ℕ = t .capacity in
+        let B : List Share = map shareOf (f .before) in
+        let A : List Share = map shareOf (f .after) in
+        let split : map shareOf (t .stations) ≡ B ++ (shareOf s ∷ A) = ap (map shareOf) (f .split) ∙ shares-split (f .before) s (f .after) in
+        let sound : Sound k (B ++ (shareOf s ∷ A)) = subst (Sound k) split (good-sound t g) in
+        let a : admissionIn k (map shareOf (t .stations)) (shareOf s) ≡ Admitted =
+          admitted-is _ (ap (roomFault t) (sym (z .seat .is-station)) ∙ sym (room-law m o w (q .ca) i first h e) ∙ r) in
+        let a′ : admissionIn k (B ++ (shareOf s ∷ A)) (shareOf s) ≡ Admitted = ap (λ (l : List Share). admissionIn k l (shareOf s)) (sym split) ∙ a in
+        let place : total heldOf (B ++ (shareOf s ∷ A)) < k = admitted-has-place k B (shareOf s) A sound a′ in
+        let n : total heldOf (B ++ (shareOf s ∷ A)) ≡ total held (t .stations) = ap (total heldOf) (sym split) ∙ total-held (t .stations) in
+        omega arith
+
+    -- where the point goes
+    goes : isDone (seatFault q (findAt m first h (q .ioa))) ≡ true
+        → Standing (tableOf m .stations) (q .ca) (pointOf q .ioa) (seat-law m (q .ca) i first h o w e .seat .s) (seat-law m (q .ca) i first h o w e .seat .found) i h
+          (offsetOf (findAt m first h (q .ioa)))
+    unfolding seatFault
+    goes d = by-spot (findAt m first h (q .ioa)) refl (first-done (ownFault true q) (spotFault (findAt m first h (q .ioa))) (done-is (seatFault q (findAt m first h (q .ioa))) d) .1)
+      where
+        by-spot : (x : Spot) → findAt m first h (q .ioa) ≡ x → spotFault x ≡ Done
+            → Standing (tableOf m .stations) (q .ca) (pointOf q .ioa) (seat-law m (q .ca) i first h o w e .seat .s) (seat-law m (q .ca) i first h o w e .seat .found) i h (offsetOf x)
+        by-spot (Held at) p f = not-both (ap isDone f)
+        by-spot (Missing at) p f =
+            let z = seat-law m (q .ca) i first h o w e in
+            let k = missing-law m first h (q .ioa) at (rw (z .points) (z .rises)) p .place in
+            standing (tableOf m .stations) (q .ca) (pointOf q .ioa) i first h at (z .seat)
+            (k ∙ ap₂ (λ (l : _) (x : ℕ). first + 48 * seekIn x l) (z .points) (sym (point-address q)))
+
+    -- What `insert` asks of the numbers.
+    pub register-bounds : isDone (seatFault q (findAt m first h (q .ioa))) ≡ true → isDone (roomAt m i) ≡ true
+        → (64 + 48 * two m 4 + 8 * two m 6 ≤ length m) × (two m 8 < two m 4) × (i < two m 6) × (h < 65535)
+        × (offsetOf (findAt m first h (q .ioa)) ≤ 64 + 48 * two m 8) × (pointOf q .ioa < 16777216)
+    unfolding seatFault
+    register-bounds d r =
+        let z = seat-law m (q .ca) i first h o w e in
+        let gl = holds m o w in
+        let b = insert-bounds (tableOf m) m (q .ca) (pointOf q .ioa) (z .seat .s) (z .seat .found) i h _ (gl .0) (gl .1) (room-place (done-is _ r)) (goes d) in
+        let a : q .ioa ≤ 16777215 = faultless true q (first-done (ownFault true q) (spotFault (findAt m first h (q .ioa))) (done-is (seatFault q (findAt m first h (q .ioa))) d) .0) .address in
+        let p = point-address q in
+        (b .0, b .1, b .2, b .3, b .4, omega arith)
+
+    -- Done: the point is in its place.
+    pub register-done : isDone (seatFault q (findAt m first h (q .ioa))) ≡ true → isDone (roomAt m i) ≡ true
+        → Ends (registering q) m (reply Done) (placed m (q .ca) (pointOf q) i h (offsetOf (findAt m first h (q .ioa))))
+    unfolding registering
+    register-done d r =
+        let z = seat-law m (q .ca) i first h o w e in
+        ends-done (registering q) m w 0 _ (outcome-law ∙ simp d (done-is _ r)) refl
+        (insert-parsed m (tableOf m) (q .ca) (pointOf q) (z .seat .s) (z .seat .found) i h _ o (parse-some m w) (room-place (done-is _ r)) (goes d))

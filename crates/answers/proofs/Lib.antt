@@ -1,0 +1,4 @@
+pub mod Common
+pub mod Values
+pub mod Quiet
+pub mod Cases

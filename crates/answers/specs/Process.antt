@@ -1,0 +1,123 @@
+-- What a process command says, given a caller's proposal. Document 01, 'What each command says'; the Rust's `commands.rs`.
+use Prim.Native.Nat.{ℕ, zero, suc, _+_, _*_, _-_, _/_, _%_}
+use mathlib.Core.List.{List, [], _∷_, _++_, map}
+use mathlib.Core.Bool.{Bool, true, false, _||_, not}
+use mathlib.Core.Option.{Option, none, some}
+use lib.ListN.{length, take, drop, getD, replicate}
+use lib.Dec.{leb, eqb}
+use Rattle.limits.specs.Test.{_&_, pick}
+use Rattle.limits.specs.Size.{classOf, elementOctets, pointOctets, controlOctets, headerOctets, addressOctets}
+use Rattle.limits.specs.declared.outcome.Outcome.{Outcome}
+use Rattle.limits.specs.declared.outcome.Outcome.the-variants.{Done, Silent, BadProposal}
+use Rattle.octets.specs.Number.{two, three, twelve}
+use Rattle.model.specs.declared.Point.{Point}
+use Rattle.model.specs.Request.{element}
+use Rattle.table.specs.Table.{Station, Table}
+use Rattle.table.specs.Change.{stationOf, changed, pointIn}
+use Rattle.asdu.specs.Cause.{request, activation, activationConfirmation, deactivation, deactivationConfirmation}
+use Rattle.asdu.specs.declared.command.Command.{Command}
+use Rattle.asdu.specs.declared.command.Entry.the-variants.{ProcessCommands}
+use Rattle.asdu.specs.declared.command.Reading.{Reading}
+use Rattle.asdu.specs.declared.command.Reading.the-variants.{LengthOutOfRange, TypeNotServed, ObjectsNotWhole, Parsed}
+use Rattle.asdu.specs.Command.{readAs, outcomeOf, isProcess}
+use Rattle.asdu.specs.Confirmation.{reply}
+use Rattle.report.specs.Order.{pointsOf}
+use Rattle.report.specs.Single.{spontaneousAsdu}
+use Rattle.answers.specs.Said.{Said, unsaid}
+
+-- A value for a point of a station: CA, IOA, type and octets.
+pub record Update : Type 0 where
+  pub ca : ℕ
+  pub ioa : ℕ
+  pub kind : ℕ
+  pub value : List ℕ
+
+-- A caller's proposal: a negative flag, a reply type, the octets of the reply objects, and updates.
+pub record Proposal : Type 0 where
+  pub negative : Bool
+  pub kind : ℕ
+  pub objects : List ℕ
+  pub updates : List Update
+
+-- The updates of a flat list: 18 octets each, CA 2, IOA 3, type 1, value 12; octets after the last whole one are ignored.
+unfoldable pub updatesAt : List ℕ → ℕ → ℕ → List Update
+updatesAt m at zero = []
+updatesAt m at (suc n) = record { ca = two m at; ioa = three m (at + 2); kind = getD m (at + 5) 0; value = twelve m (at + 6) } ∷ updatesAt m (at + 18) n
+
+abbrev pub updatesIn : List ℕ → List Update
+updatesIn m = updatesAt m 0 (length m / 18)
+
+-- A proposal is good under the length limit L if its type is a process type and its reply octets are at most L − 10 and whole objects; else it is bad (6).
+unfoldable pub proposalOk : ℕ → ℕ → List ℕ → Bool
+proposalOk limit kind objects =
+    isProcess (classOf kind) & leb (length objects) (limit - (controlOctets + headerOctets)) & eqb (length objects % (addressOctets + elementOctets kind)) 0
+
+-- Process commands take causes 5, 6 and 8.
+abbrev pub processCauseTaken : ℕ → Bool
+processCauseTaken cause = eqb cause request || (eqb cause activation || eqb cause deactivation)
+
+-- ---- updates
+
+-- The point that an update means: registered at its address, and of its type.
+unfoldable pub updated : Update → Option Point → Option Point
+updated u none = none
+updated u (some p) =
+    pick (eqb (p .kind) (u .kind))
+    (some (record { kind = p .kind; ioa = p .ioa; group = p .group; counter = p .counter; value = element (pointOctets (p .kind)) (u .value) }))
+    none
+
+-- A point in place of the one with its IOA.
+unfoldable pub replaceIn : Point → List Point → List Point
+replaceIn p ps = map (λ q. pick (eqb (q .ioa) (p .ioa)) p q) ps
+
+-- What an update leaves: the table after it, and the spontaneous ASDU that tells it, with the update's own CA; skipped, nothing changes and nothing is told.
+unfoldable pub tableWith : Table → Update → Option Point → Table
+tableWith t u none = t
+tableWith t u (some p) = changed t (u .ca) (replaceIn p)
+
+unfoldable pub toldOf : Update → Option Point → List ℕ
+toldOf u none = []
+toldOf u (some p) = spontaneousAsdu (u .ca) p
+
+-- The new value of a point by an update of a table.
+abbrev pub updateOf : Table → Update → Option Point
+updateOf t u = updated u (pointIn (u .ioa) (pointsOf (stationOf (u .ca) (t .stations))))
+
+-- The updates go in order: the table after them, and what they tell, one after another.
+unfoldable pub tableAfter : Table → List Update → Table
+tableAfter t [] = t
+tableAfter t (u ∷ us) = tableAfter (tableWith t u (updateOf t u)) us
+
+unfoldable pub toldBy : Table → List Update → List ℕ
+toldBy t [] = []
+toldBy t (u ∷ us) = toldOf u (updateOf t u) ++ toldBy (tableWith t u (updateOf t u)) us
+
+-- ---- the command
+
+-- The updates that count: none of a negative proposal is read.
+abbrev pub readUpdates : Proposal → List Update
+readUpdates p = pick (p .negative) [] (p .updates)
+
+-- The confirmation's cause: 9 for a deactivation, else 7.
+abbrev pub confirmationCause : ℕ → ℕ
+confirmationCause cause = pick (eqb cause deactivation) deactivationConfirmation activationConfirmation
+
+-- The confirmation: the reply's type and objects; originator, CA and test of the command; negative as proposed.
+abbrev pub processReply : Command → Proposal → List ℕ
+processReply c p =
+    reply c (p .kind) (length (p .objects) / (addressOctets + elementOctets (p .kind))) (confirmationCause (c .cause)) (p .negative) (p .objects)
+
+unfoldable pub processFrom : ℕ → Proposal → Reading → Table → Said
+processFrom limit p LengthOutOfRange t = unsaid (outcomeOf LengthOutOfRange) t []
+processFrom limit p TypeNotServed t = unsaid (outcomeOf TypeNotServed) t []
+processFrom limit p ObjectsNotWhole t = unsaid (outcomeOf ObjectsNotWhole) t []
+processFrom limit p (Parsed c) t =
+    pick (processCauseTaken (c .cause))
+    (pick (proposalOk limit (p .kind) (p .objects))
+    (record { outcome = Done; answer = processReply c p; told = toldBy t (readUpdates p); after = tableAfter t (readUpdates p); clock = [] })
+    (unsaid BadProposal t []))
+    (unsaid Silent t [])
+
+-- What a process command says to a table.
+abbrev pub processSaid : ℕ → Proposal → List ℕ → Table → Said
+processSaid limit p m t = processFrom limit p (readAs limit ProcessCommands m) t

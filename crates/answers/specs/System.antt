@@ -1,0 +1,186 @@
+-- What each system command says: interrogation, counters, read, clock, tests, reset process.
+-- Document 01, 'What each command says'; IEC 60870-5-101, 7.4 (functions) and 7.2.6.22, 7.2.6.23 (qualifiers).
+use Prim.Native.Nat.{ℕ, zero, suc, _+_, _*_, _-_, _/_, _%_}
+use mathlib.Core.List.{List, [], _∷_, _++_, map}
+use mathlib.Core.Bool.{Bool, true, false, _||_, not}
+use mathlib.Core.Option.{Option, none, some}
+use lib.ListN.{length, take, drop, getD, replicate}
+use lib.Dec.{leb, eqb}
+use Rattle.limits.specs.Test.{_&_, pick}
+use Rattle.limits.specs.Size.{headerOctets, addressOctets}
+use Rattle.limits.specs.declared.outcome.Outcome.{Outcome}
+use Rattle.limits.specs.declared.outcome.Outcome.the-variants.{Done, Silent}
+use Rattle.octets.specs.Number.{three}
+use Rattle.model.specs.declared.Point.{Point}
+use Rattle.model.specs.Place.{isCounter}
+use Rattle.table.specs.Table.{Station, Table}
+use Rattle.table.specs.Change.{stationOf, withPoints, changed, pointIn}
+use Rattle.asdu.specs.Cause.{request, activation, activationConfirmation, activationTermination, interrogation, counterInterrogation}
+use Rattle.asdu.specs.Header.{globalAddress}
+use Rattle.asdu.specs.declared.command.Command.{Command}
+use Rattle.asdu.specs.declared.command.Entry.the-variants.{SystemCommands}
+use Rattle.asdu.specs.declared.command.Reading.{Reading}
+use Rattle.asdu.specs.declared.command.Reading.the-variants.{LengthOutOfRange, TypeNotServed, ObjectsNotWhole, Parsed}
+use Rattle.asdu.specs.Command.{readAs, outcomeOf}
+use Rattle.asdu.specs.Confirmation.{confirmation, echo}
+use Rattle.report.specs.declared.Selection.{Selection}
+use Rattle.report.specs.declared.Selection.the-variants.{Every, Group, CounterGroup}
+use Rattle.report.specs.Packing.{selected, joined}
+use Rattle.report.specs.Selection.{selects, interrogationTypes, counterTypes}
+use Rattle.report.specs.Report.{report}
+use Rattle.report.specs.Order.{pointsFor, pointsOf}
+use Rattle.report.specs.Single.{requestedAsdu}
+use Rattle.answers.specs.Said.{Said, unsaid, says}
+
+-- The types of the system commands.
+abbrev pub interrogationType : ℕ
+interrogationType = 100
+
+abbrev pub countersType : ℕ
+countersType = 101
+
+abbrev pub readType : ℕ
+readType = 102
+
+abbrev pub clockType : ℕ
+clockType = 103
+
+-- ---- which commands are taken
+
+-- Causes taken: 6 for an interrogation; 5 or 6 for the others.
+abbrev pub causeTaken : ℕ → ℕ → Bool
+causeTaken kind cause = eqb cause activation || (not (eqb kind interrogationType) & eqb cause request)
+
+-- The qualifier octet of the first object.
+abbrev pub qualifierOf : List ℕ → ℕ
+qualifierOf m = getD m (headerOctets + addressOctets) 0
+
+-- What is answered by number 1: no first object, a cause that is not taken, an interrogation with qualifier 0.
+unfoldable pub isSilent : Command → List ℕ → Bool
+isSilent c m = eqb (c .count) 0 || (not (causeTaken (c .kind) (c .cause)) || (eqb (c .kind) interrogationType & eqb (qualifierOf m) 0))
+
+-- ---- confirmation, data, termination
+
+-- A positive confirmation, cause 7, with the first object alone.
+abbrev pub confirmed : Command → List ℕ → List ℕ
+confirmed c m = confirmation c m activationConfirmation false
+
+-- A negative confirmation, cause 7, with the first object alone.
+abbrev pub denied : Command → List ℕ → List ℕ
+denied c m = confirmation c m activationConfirmation true
+
+-- A termination, cause 10, with the first object alone.
+abbrev pub terminated : Command → List ℕ → List ℕ
+terminated c m = confirmation c m activationTermination false
+
+-- The report of the selected points between confirmation and termination: data keep the command's CA.
+unfoldable pub reported : ℕ → Command → List ℕ → List ℕ → ℕ → Selection → List Station → List ℕ
+reported limit c m types cause sel ss =
+    confirmed c m ++ (report limit types cause (c .ca) (selected (selects sel) (pointsFor (c .ca) ss)) ++ terminated c m)
+
+-- ---- interrogation
+
+-- Qualifier 20 selects all points, 21 to 36 those of group 1 to 16; any other selects nothing.
+abbrev pub interrogated : ℕ → Option Selection
+interrogated q = pick (eqb q interrogation) (some Every) (pick (leb 21 q & leb q 36) (some (Group (q - interrogation))) none)
+
+-- Confirmation, data with the qualifier as cause, termination; or one negative confirmation.
+unfoldable pub interrogationAnswer : ℕ → Command → List ℕ → Option Selection → List Station → List ℕ
+interrogationAnswer limit c m none ss = denied c m
+interrogationAnswer limit c m (some sel) ss = reported limit c m interrogationTypes (qualifierOf m) sel ss
+
+-- ---- counters
+
+-- Bits 0 to 5 choose: 5 all, 1 to 4 a group.
+abbrev pub choiceOf : ℕ → ℕ
+choiceOf q = q % 64
+
+-- Bits 6 and 7 act: 0 read, 1 freeze, 2 freeze and reset, 3 reset.
+abbrev pub actionOf : ℕ → ℕ
+actionOf q = q / 64
+
+abbrev pub chosen : ℕ → Option Selection
+chosen choice = pick (eqb choice 5) (some Every) (pick (leb 1 choice & leb choice 4) (some (CounterGroup choice)) none)
+
+-- Data have cause 37 for all, 37 + group for a group.
+abbrev pub counterCause : ℕ → ℕ
+counterCause choice = pick (eqb choice 5) counterInterrogation (counterInterrogation + choice)
+
+unfoldable pub counterAnswer : ℕ → Command → List ℕ → Option Selection → List Station → List ℕ
+counterAnswer limit c m none ss = denied c m
+counterAnswer limit c m (some sel) ss = reported limit c m counterTypes (counterCause (choiceOf (qualifierOf m))) sel ss
+
+-- A counter's reading, its first four octets, set to 0; the rest stays.
+abbrev pub zeroed : Point → Point
+zeroed p = record { kind = p .kind; ioa = p .ioa; group = p .group; counter = p .counter; value = replicate 4 0 ++ drop 4 (p .value) }
+
+-- The points with the selected counters set to 0.
+unfoldable pub resetIn : Selection → List Point → List Point
+resetIn sel ps = map (λ p. pick (isCounter (p .kind) & selects sel p) (zeroed p) p) ps
+
+-- The counters of a station, or under CA 65,535 of every station, reset.
+unfoldable pub resetAt : Table → ℕ → Selection → Table
+resetAt t ca sel =
+    pick (eqb ca globalAddress) (record { capacity = t .capacity; stations = map (withPoints (resetIn sel)) (t .stations) }) (changed t ca (resetIn sel))
+
+-- Actions 2 and 3 reset the reported counters; 0 and 1, and a choice that is denied, change nothing.
+unfoldable pub afterCounters : Table → ℕ → ℕ → Option Selection → Table
+afterCounters t ca q none = t
+afterCounters t ca q (some sel) = pick (leb 2 (actionOf q)) (resetAt t ca sel) t
+
+-- ---- read
+
+-- The addresses of a read command's n objects from `at` on.
+unfoldable pub addressesIn : List ℕ → ℕ → ℕ → List ℕ
+addressesIn m at zero = []
+addressesIn m at (suc n) = three m at ∷ addressesIn m (at + addressOctets) n
+
+-- The points at these addresses, in their order, repeats included; none where one is missing.
+unfoldable pub pointsAsked : List ℕ → List Point → Option (List Point)
+pointsAsked [] ps = some []
+pointsAsked (a ∷ as′) ps = also (pointIn a ps) (pointsAsked as′ ps)
+  where
+    also : Option Point → Option (List Point) → Option (List Point)
+    also none rest = none
+    also (some p) none = none
+    also (some p) (some rest) = some (p ∷ rest)
+
+-- The echo of all objects, negative where an address is missing; else one ASDU for each object, cause 5.
+unfoldable pub readAnswer : Command → List ℕ → Option (List Point) → List ℕ
+readAnswer c m none = echo c m activationConfirmation true
+readAnswer c m (some ps) = echo c m activationConfirmation false ++ joined (requestedAsdu (c .ca)) ps
+
+-- ---- clock
+
+-- The first object's time, and that it is known.
+abbrev pub clockFrom : List ℕ → List ℕ
+clockFrom m = take 7 (drop (headerOctets + addressOctets) m) ++ (1 ∷ [])
+
+-- ---- the command
+
+-- What a command that is not silent says, by its type.
+unfoldable pub commandSaid : ℕ → List ℕ → List ℕ → Command → Table → Said
+commandSaid limit clock m c t =
+    pick (eqb (c .kind) interrogationType) (says (interrogationAnswer limit c m (interrogated (qualifierOf m)) (t .stations)) t clock)
+    (pick (eqb (c .kind) countersType)
+    (record {
+      outcome = Done;
+      answer = counterAnswer limit c m (chosen (choiceOf (qualifierOf m))) (t .stations);
+      told = [];
+      after = afterCounters t (c .ca) (qualifierOf m) (chosen (choiceOf (qualifierOf m)));
+      clock = clock
+    })
+    (pick (eqb (c .kind) readType)
+    (says (readAnswer c m (pointsAsked (addressesIn m headerOctets (c .count)) (pointsOf (stationOf (c .ca) (t .stations))))) t clock)
+    (pick (eqb (c .kind) clockType) (says (echo c m activationConfirmation false) t (clockFrom m)) (says (echo c m activationConfirmation false) t clock))))
+
+-- The order of the tests: malformed or not served; silent; then the command's own answer.
+unfoldable pub systemFrom : ℕ → List ℕ → List ℕ → Reading → Table → Said
+systemFrom limit clock m LengthOutOfRange t = unsaid (outcomeOf LengthOutOfRange) t clock
+systemFrom limit clock m TypeNotServed t = unsaid (outcomeOf TypeNotServed) t clock
+systemFrom limit clock m ObjectsNotWhole t = unsaid (outcomeOf ObjectsNotWhole) t clock
+systemFrom limit clock m (Parsed c) t = pick (isSilent c m) (unsaid Silent t clock) (commandSaid limit clock m c t)
+
+-- What a system command says to a table.
+abbrev pub systemSaid : ℕ → List ℕ → List ℕ → Table → Said
+systemSaid limit clock m t = systemFrom limit clock m (readAs limit SystemCommands m) t

@@ -1,0 +1,20 @@
+// The line that a replay prints for each call.
+use libc::STDOUT_FILENO;
+
+// Begins a line with the name of the entry.
+pub fn begin(name: &[u8]) {
+    io::write_all(STDOUT_FILENO, name);
+}
+
+// Goes on with a number.
+pub fn number(n: u32) {
+    io::write_all(STDOUT_FILENO, b" ");
+    io::print_decimal(STDOUT_FILENO, n as u64);
+}
+
+// Ends the line with the checksum.
+pub fn end(sum: u64) {
+    io::write_all(STDOUT_FILENO, b" ");
+    io::print_decimal(STDOUT_FILENO, sum);
+    io::write_all(STDOUT_FILENO, b"\n");
+}

@@ -1,0 +1,7 @@
+pub mod Packing
+pub mod Each
+pub mod Report
+pub mod Ordering
+pub mod Order
+pub mod Single
+pub mod Cases

@@ -1,0 +1,68 @@
+-- ASDUs of one object: their lengths, and that the end of initialisation has the smallest CA with a point. Assumes nothing.
+use mathlib.Core.Path.{_≡_, refl, sym, ap, _∙_}
+use mathlib.Core.List.{List, [], _∷_, _++_}
+use mathlib.Core.Bool.{Bool, true, false}
+use Prim.Native.Nat.{ℕ, zero, suc, _+_, _≤_, _<_}
+use native.Mathlib.Omega.{arith}
+use lib.ListN.{length, length-append}
+use lib.Dec.{eqb}
+use borrow.Author.Tests.{eqb-true, eqb-false, leb-true}
+use Rattle.limits.specs.Test.{_&_, pick}
+use Rattle.limits.specs.Size.{pointOctets}
+use Rattle.limits.proofs.Tests.{both}
+use Rattle.asdu.specs.Header.{header, object, asdu}
+use Rattle.model.specs.declared.Point.{Point}
+use Rattle.table.specs.Table.{Station, held, planOk, numbersOk}
+use Rattle.report.specs.Packing.{joined, flat, Each}
+use Rattle.report.specs.Report.{objectOf, octetsOf}
+use Rattle.report.specs.Single.{single, endOfInitializationAsdu, stationCommonAddress}
+use Rattle.report.proofs.Each.{each-so}
+use Rattle.report.proofs.Report.{Whole, length-object, length-octets}
+
+-- the octets of one object alone
+flat-one : (x : List ℕ) → length (flat (x ∷ [])) ≡ length x
+unfolding joined
+flat-one x = simp length-append (omega arith)
+
+-- one point in an ASDU of its own takes nine octets and its element
+pub length-single : (cause ca : ℕ) (p : Point) → Whole p → length (single cause ca p) ≡ 9 + pointOctets (p .kind)
+unfolding single
+length-single cause ca p w =
+    let a : length (octetsOf cause ca (record { kind = p .kind; objects = objectOf p ∷ [] })) ≡ 6 + length (flat (objectOf p ∷ [])) =
+    length-octets cause ca (record { kind = p .kind; objects = objectOf p ∷ [] }) in
+    let b : length (flat (objectOf p ∷ [])) ≡ length (objectOf p) = flat-one (objectOf p) in
+    let c : length (objectOf p) ≡ 3 + pointOctets (p .kind) = length-object p w in
+    omega arith
+
+-- the end of initialisation takes ten octets
+pub length-end : (ca : ℕ) → length (endOfInitializationAsdu ca) ≡ 10
+unfolding endOfInitializationAsdu asdu header object
+length-end ca = refl
+
+-- ---- the smallest CA with a point
+
+-- CAs of a plan ascend from a lower bound
+plan-above : (k low : ℕ) (ss : List Station) → planOk k low ss ≡ true → Each (λ s. low ≤ s .ca) ss
+unfolding planOk numbersOk Each
+plan-above k low [] e = tt
+plan-above k low (s ∷ ss) e =
+    let a = both _ _ e in
+    let l : low ≤ s .ca = leb-true low (s .ca) (both _ _ (a .0) .0) in
+    (l, each-so (λ x. s .ca + 1 ≤ x .ca) (λ x. low ≤ x .ca) (λ x h. omega arith) ss (plan-above k (s .ca + 1) ss (a .1)))
+
+-- no station with a point has a smaller CA
+pub smallest : (k low : ℕ) (ss : List Station) → planOk k low ss ≡ true → Each (λ s. 0 < held s → stationCommonAddress ss ≤ s .ca) ss
+unfolding planOk Each stationCommonAddress
+smallest k low [] e = tt
+smallest k low (s ∷ ss) e = go (eqb (held s) 0) refl (smallest k (s .ca + 1) ss (both _ _ e .1)) (plan-above k (s .ca + 1) ss (both _ _ e .1))
+  where
+    go : (b : Bool) → eqb (held s) 0 ≡ b → Each (λ x. 0 < held x → stationCommonAddress ss ≤ x .ca) ss → Each (λ x. s .ca + 1 ≤ x .ca) ss
+        → (0 < held s → pick b (stationCommonAddress ss) (s .ca) ≤ s .ca) × Each (λ x. 0 < held x → pick b (stationCommonAddress ss) (s .ca) ≤ x .ca) ss
+    go true q r a = ((λ h. let z : held s ≡ 0 = eqb-true (held s) 0 q in absurd (omega arith)), r)
+    go false q r a = ((λ h. omega arith), each-so (λ x. s .ca + 1 ≤ x .ca) (λ x. 0 < held x → s .ca ≤ x .ca) (λ x h w. omega arith) ss a)
+
+-- without a point it is 0
+pub without-points : (ss : List Station) → Each (λ s. held s ≡ 0) ss → stationCommonAddress ss ≡ 0
+unfolding Each stationCommonAddress
+without-points [] e = refl
+without-points (s ∷ ss) e = ap (λ (n : ℕ). pick (eqb n 0) (stationCommonAddress ss) (s .ca)) (e .0) ∙ without-points ss (e .1)

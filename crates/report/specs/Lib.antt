@@ -1,0 +1,5 @@
+pub mod Packing
+pub mod Selection
+pub mod Report
+pub mod Order
+pub mod Single
