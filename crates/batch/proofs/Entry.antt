@@ -1,0 +1,84 @@
+-- The entry's ways out: each gives the reply and leaves the memory that the effect of a batch says. Assumes nothing.
+use mathlib.Core.Path.{_≡_, refl, sym, ap, _∙_}
+use mathlib.Core.List.{List, [], _∷_}
+use mathlib.Core.Bool.{Bool, true, false}
+use mathlib.Core.Option.{Option, none, some}
+use Prim.Native.Nat.{ℕ}
+use Rattle.limits.specs.Test.{pick}
+use Rattle.limits.specs.Outcome.{isDone}
+use Rattle.limits.specs.declared.outcome.Outcome.the-variants.{Done, TableNotWellFormed}
+use Rattle.limits.proofs.Outcomes.{done-is}
+use Rattle.model.specs.declared.Request.{Request}
+use Rattle.table.specs.Table.{Table}
+use Rattle.table.specs.Memory.{wellFormed, tableOf, parse}
+use Rattle.table.proofs.Parse.{parse-some, parse-none}
+use Rattle.registry.specs.declared.Reply.{Reply}
+use Rattle.registry.specs.Effect.{Effect, holding, replyFrom, memoryFrom, replyOn, memoryOn}
+use Rattle.registry.specs.Registry.{ownTests, roomTests, registeringAll}
+use Rattle.batch_room.specs.Room.{roomReply}
+
+-- No table: 3, and the memory as it was.
+pub no-table : (f : Table → Effect) (m : List ℕ) → wellFormed m ≡ false
+    → (record { outcome = TableNotWellFormed; place = 0 } ≡ replyOn f m) × (m ≡ memoryOn f m)
+unfolding replyFrom memoryFrom
+no-table f m w = let p : parse m ≡ none = parse-none m w in (ap (replyFrom f) (sym p), ap (memoryFrom f m) (sym p))
+
+-- A table: its own reply, and its own memory.
+of-table : (f : Table → Effect) (m : List ℕ) → wellFormed m ≡ true
+    → (replyOn f m ≡ record { outcome = f (tableOf m) .outcome; place = f (tableOf m) .place })
+    × (memoryOn f m ≡ pick (isDone (f (tableOf m) .outcome)) (holding m (tableOf m) (f (tableOf m) .after)) m)
+unfolding replyFrom memoryFrom
+of-table f m w = let p : parse m ≡ some (tableOf m) = parse-some m w in (ap (replyFrom f) p, ap (memoryFrom f m) p)
+
+module _ (m : List ℕ) (w : wellFormed m ≡ true) (qs : List Request) where
+  -- a point fails its own tests
+  refused-own : isDone (ownTests (tableOf m) [] 0 qs .outcome) ≡ false
+      → registeringAll qs (tableOf m) ≡ record { outcome = ownTests (tableOf m) [] 0 qs .outcome; place = ownTests (tableOf m) [] 0 qs .place; after = tableOf m }
+  unfolding registeringAll
+  refused-own d = simp d
+
+  -- all pass
+  passed-own : isDone (ownTests (tableOf m) [] 0 qs .outcome) ≡ true → registeringAll qs (tableOf m) ≡ roomTests (tableOf m) 0 qs
+  unfolding registeringAll
+  passed-own d = simp d
+
+  -- Refused by 11 to 17.
+  pub own-refusal : (x : Reply) → x ≡ ownTests (tableOf m) [] 0 qs → isDone (x .outcome) ≡ false → (x ≡ replyOn (registeringAll qs) m) × (m ≡ memoryOn (registeringAll qs) m)
+  own-refusal x e d =
+      let t = of-table (registeringAll qs) m w in
+      let n : isDone (ownTests (tableOf m) [] 0 qs .outcome) ≡ false = ap (λ (y : Reply). isDone (y .outcome)) (sym e) ∙ d in
+      let r = refused-own n in (
+        e ∙ sym (t .0 ∙ ap (λ (f : Effect). record { outcome = f .outcome; place = f .place }) r),
+        sym (t .1 ∙ ap (λ (f : Effect). pick (isDone (f .outcome)) (holding m (tableOf m) (f .after)) m) r ∙ simp n),
+      )
+
+  module _ (p : isDone (ownTests (tableOf m) [] 0 qs .outcome) ≡ true) (x : Reply) (e : x ≡ roomReply (tableOf m) qs) where
+    -- the reply is the share rule's
+    room-reply : x ≡ replyOn (registeringAll qs) m
+    unfolding roomReply
+    room-reply = e ∙ sym (of-table (registeringAll qs) m w .0 ∙ ap (λ (f : Effect). record { outcome = f .outcome; place = f .place }) (passed-own p))
+
+    room-outcome : x .outcome ≡ roomTests (tableOf m) 0 qs .outcome
+    unfolding roomReply
+    room-outcome = ap (λ (y : Reply). y .outcome) e
+
+    room-memory : memoryOn (registeringAll qs) m ≡ pick (isDone (roomTests (tableOf m) 0 qs .outcome)) (holding m (tableOf m) (roomTests (tableOf m) 0 qs .after)) m
+    room-memory =
+        of-table (registeringAll qs) m w .1 ∙ ap (λ (f : Effect). pick (isDone (f .outcome)) (holding m (tableOf m) (f .after)) m) (passed-own p)
+
+    -- Refused for room: 19, 20.
+    pub room-refusal : isDone (x .outcome) ≡ false → (x ≡ replyOn (registeringAll qs) m) × (m ≡ memoryOn (registeringAll qs) m)
+    room-refusal d =
+        let n : isDone (roomTests (tableOf m) 0 qs .outcome) ≡ false = ap isDone (sym room-outcome) ∙ d in
+        (room-reply, sym (room-memory ∙ simp n))
+
+    -- What the storing asks.
+    pub has-room : isDone (x .outcome) ≡ true → roomTests (tableOf m) 0 qs .outcome ≡ Done
+    has-room d = sym room-outcome ∙ done-is _ d
+
+    -- Done: all are stored.
+    pub stored-all : isDone (x .outcome) ≡ true → (later : List ℕ) → later ≡ holding m (tableOf m) (roomTests (tableOf m) 0 qs .after)
+        → (x ≡ replyOn (registeringAll qs) m) × (later ≡ memoryOn (registeringAll qs) m)
+    stored-all d later s =
+        let n : isDone (roomTests (tableOf m) 0 qs .outcome) ≡ true = ap isDone (sym room-outcome) ∙ d in
+        (room-reply, s ∙ sym (room-memory ∙ simp n))

@@ -1,0 +1,114 @@
+-- The entry's four ways out are the four cases of the effect of a batch. Assumes nothing.
+use borrow.Author.Needs.{needs}
+use borrow.Author.Tests.{not-true, not-false}
+use mathlib.Core.Path.{_≡_, sym, ap, _∙_}
+use mathlib.Core.List.{[]}
+use mathlib.Core.Bool.{true, false}
+use denote.Ref.{now}
+use Rattle.limits.specs.Outcome.{isDone}
+use Rattle.limits.proofs.Outcomes.{done-is}
+use Rattle.table.specs.Memory.{wellFormed, tableOf}
+use Rattle.table.proofs.Parse.{passed}
+use Rattle.registry.specs.declared.Reply.{Reply}
+use Rattle.registry.specs.Registry.{ownTests}
+use Rattle.records.specs.Records.{requestsIn}
+use Rattle.batch.proofs.Entry.{no-table, own-refusal, room-refusal, has-room, stored-all}
+use Rattle.batch.proofs.register_points.Statement.{statement}
+use Rattle.batch.proofs.register_points.Tie as tie
+
+well-formed-requires : tie.Need-well-formed-requires
+well-formed-requires c κs = search needs
+
+same-length : tie.Need-same-length
+same-length c = search needs
+
+returns : tie.Need-returns
+returns c = no-table _ _ (sym (c .before .well-formed .ensures) ∙ not-true _ (c .if1 .taken))
+
+own-tests-requires : tie.Need-own-tests-requires
+own-tests-requires c κs = sym (c .before .before .well-formed .ensures) ∙ not-false _ (c .before .if1 .left)
+
+is-done-requires : tie.Need-is-done-requires
+is-done-requires c κs = search needs
+
+same-length-2 : tie.Need-same-length-2
+same-length-2 c = search needs
+
+returns-2 : tie.Need-returns-2
+returns-2 c =
+    let a = c .before .before .before .before .before .before .before .before .before .args in
+    let m = now (a .table) in
+    let qs = requestsIn (now (a .records)) in
+    let w : wellFormed m ≡ true = sym (c .before .before .before .before .before .well-formed .ensures) ∙ not-false _ (c .before .before .before .before .if1 .left) in
+    let p : isDone (c .before .before .own-tests .result .outcome) ≡ false = sym (c .before .is-done .ensures) ∙ not-true _ (c .if2 .taken) in
+    own-refusal m w qs (c .before .before .own-tests .result) (c .before .before .own-tests .ensures) p
+
+room-tests-requires : tie.Need-room-tests-requires
+room-tests-requires c κs =
+    let a = c .before .before .before .before .before .before .before .before .before .before .args in
+    let m = now (a .table) in
+    let qs = requestsIn (now (a .records)) in
+    let w : wellFormed m ≡ true = sym (c .before .before .before .before .before .before .well-formed .ensures) ∙ not-false _ (c .before .before .before .before .before .if1 .left) in
+    let t = passed m w .top in
+    (t .s-high, t .room)
+
+is-done-requires-2 : tie.Need-is-done-requires-2
+is-done-requires-2 c κs = search needs
+
+same-length-3 : tie.Need-same-length-3
+same-length-3 c = search needs
+
+returns-3 : tie.Need-returns-3
+returns-3 c =
+    let a = c .before .before .before .before .before .before .before .before .before .before .before .before .before .args in
+    let m = now (a .table) in
+    let qs = requestsIn (now (a .records)) in
+    let w : wellFormed m ≡ true = sym (c .before .before .before .before .before .before .before .before .before .well-formed .ensures) ∙ not-false _ (c .before .before .before .before .before .before .before .before .if1 .left) in
+    let p : isDone (c .before .before .before .before .before .before .own-tests .result .outcome) ≡ true = sym (c .before .before .before .before .before .is-done .ensures) ∙ not-false _ (c .before .before .before .before .if2 .left) in
+    let d : isDone (ownTests (tableOf m) [] 0 qs .outcome) ≡ true = ap (λ (y : Reply). isDone (y .outcome)) (sym (c .before .before .before .before .before .before .own-tests .ensures)) ∙ p in
+    let x : isDone (c .before .before .room-tests .result .outcome) ≡ false = sym (c .before .is-done2 .ensures) ∙ not-true _ (c .if3 .taken) in
+    room-refusal m w qs d (c .before .before .room-tests .result) (c .before .before .room-tests .ensures) x
+
+store-all-requires : tie.Need-store-all-requires
+store-all-requires c κs =
+    let a = c .before .before .before .before .before .before .before .before .before .before .before .before .before .before .args in
+    let m = now (a .table) in
+    let qs = requestsIn (now (a .records)) in
+    let w : wellFormed m ≡ true = sym (c .before .before .before .before .before .before .before .before .before .before .well-formed .ensures) ∙ not-false _ (c .before .before .before .before .before .before .before .before .before .if1 .left) in
+    let p : isDone (c .before .before .before .before .before .before .before .own-tests .result .outcome) ≡ true = sym (c .before .before .before .before .before .before .is-done .ensures) ∙ not-false _ (c .before .before .before .before .before .if2 .left) in
+    let d : isDone (ownTests (tableOf m) [] 0 qs .outcome) ≡ true = ap (λ (y : Reply). isDone (y .outcome)) (sym (c .before .before .before .before .before .before .before .own-tests .ensures)) ∙ p in
+    let x : isDone (c .before .before .before .room-tests .result .outcome) ≡ true = sym (c .before .before .is-done2 .ensures) ∙ not-false _ (c .before .if3 .left) in
+    (w, done-is _ d, has-room m w qs d (c .before .before .before .room-tests .result) (c .before .before .before .room-tests .ensures) x)
+
+same-length-4 : tie.Need-same-length-4
+same-length-4 c = search needs
+
+returns-4 : tie.Need-returns-4
+returns-4 c =
+    let a = c .before .before .before .before .before .before .before .before .before .before .before .before .before .before .before .before .before .args in
+    let m = now (a .table) in
+    let qs = requestsIn (now (a .records)) in
+    let w : wellFormed m ≡ true = sym (c .before .before .before .before .before .before .before .before .before .before .before .before .before .well-formed .ensures) ∙ not-false _ (c .before .before .before .before .before .before .before .before .before .before .before .before .if1 .left) in
+    let p : isDone (c .before .before .before .before .before .before .before .before .before .before .own-tests .result .outcome) ≡ true = sym (c .before .before .before .before .before .before .before .before .before .is-done .ensures) ∙ not-false _ (c .before .before .before .before .before .before .before .before .if2 .left) in
+    let d : isDone (ownTests (tableOf m) [] 0 qs .outcome) ≡ true = ap (λ (y : Reply). isDone (y .outcome)) (sym (c .before .before .before .before .before .before .before .before .before .before .own-tests .ensures)) ∙ p in
+    let x : isDone (c .before .before .before .before .before .before .room-tests .result .outcome) ≡ true = sym (c .before .before .before .before .before .is-done2 .ensures) ∙ not-false _ (c .before .before .before .before .if3 .left) in
+    stored-all m w qs d (c .before .before .before .before .before .before .room-tests .result) (c .before .before .before .before .before .before .room-tests .ensures) x _ (c .before .before .store-all .ensures)
+
+pub register-points-spec : {M : Type 1} → statement M
+register-points-spec =
+    tie.close
+    (tie.spec
+    well-formed-requires
+    same-length
+    returns
+    own-tests-requires
+    is-done-requires
+    same-length-2
+    returns-2
+    room-tests-requires
+    is-done-requires-2
+    same-length-3
+    returns-3
+    store-all-requires
+    same-length-4
+    returns-4)
