@@ -2,3 +2,4 @@ pub mod Places
 pub mod Answer
 pub mod Reached
 pub mod Alone
+pub mod Sets
