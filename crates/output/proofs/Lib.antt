@@ -1,2 +1,5 @@
 pub mod Places
 pub mod Answer
+pub mod Reached
+pub mod Alone
+pub mod Sets

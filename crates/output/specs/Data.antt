@@ -7,12 +7,13 @@ use lib.Dec.{ltb}
 use Rattle.limits.specs.Test.{pick}
 use Rattle.octets.specs.Over.{over}
 use Rattle.model.specs.declared.Point.{Point}
+use Rattle.table.specs.Table.{Station}
 use Rattle.table.specs.Memory.{pointsAt}
 use Rattle.report.specs.declared.Selection.{Selection}
 use Rattle.report.specs.Packing.{selected, Each}
 use Rattle.report.specs.Selection.{selects}
 use Rattle.report.specs.Report.{report}
-use Rattle.report.specs.Order.{byAddress}
+use Rattle.report.specs.Order.{byAddress, pointsFor}
 use Rattle.output.specs.declared.data.Written.{Written}
 use Rattle.output.specs.declared.data.Written.the-variants.{Octets, Short}
 
@@ -27,6 +28,10 @@ arranged every ps = pick every (byAddress ps) ps
 -- The report of the selected ones of the n points from the place at `base`.
 unfoldable pub dataOf : ℕ → List ℕ → ℕ → ℕ → Selection → Bool → List ℕ → ℕ → ℕ → List ℕ
 dataOf limit types cause ca s every m base n = report limit types cause ca (selected (selects s) (arranged every (pointsAt m base n)))
+
+-- The report of the selected points that a common address speaks of.
+unfoldable pub dataFor : ℕ → List ℕ → ℕ → ℕ → Selection → List Station → List ℕ
+dataFor limit types cause ca s ss = report limit types cause ca (selected (selects s) (pointsFor ca ss))
 
 -- There is room for data between what stands before and after them, or there is not.
 unfoldable pub tooShort : ℕ → ℕ → ℕ → List ℕ → Bool

@@ -1,2 +1,3 @@
 pub mod Order
 pub mod Data
+pub mod Reach

@@ -3,14 +3,13 @@ use chains::link;
 use chains::write;
 use report::Selection;
 use crate::order;
+use crate::reach;
 ghost use mathlib.Core.Path.{_≡_};
+ghost use mathlib.Core.Bool.{true};
 ghost use Prim.Native.Nat.{_+_, _*_, _≤_, _<_};
 ghost use lib.ListN.{length, replicate};
-ghost use lib.Dec.{ltb};
-ghost use Rattle.limits.specs.Test.{pick};
-ghost use Rattle.octets.specs.Over.{over};
-ghost use Rattle.output.specs.declared.data.Written.the-variants.{Octets, Short};
-ghost use Rattle.output.specs.Data.{Slots, dataOf, wrote, written};
+ghost use Rattle.table.specs.Memory.{wellFormed, tableOf};
+ghost use Rattle.output.specs.Data.{Slots, dataOf, dataFor, wrote, written};
 
 // What the writer answers: how many octets the data have, or that there is no room for them.
 pub enum Written {
@@ -43,4 +42,13 @@ pub fn put_data(out: &mut [u8], before: usize, after: usize, m: &[u8], base: usi
     let mut next: [u16; 4096] = [0; 4096];
     let mut counts: [u16; 64] = [0; 64];
     put_with(out, before, after, m, base, n, every, s, limit, types, cause, ca, &mut places, &mut heads, &mut next, &mut counts)
+}
+
+// The same of a common address: the selected points that it speaks of in a well-formed table. The Rust's `interrogation_data_asdus`.
+pub fn put_interrogation_data(out: &mut [u8], before: usize, after: usize, m: &[u8], s: Selection, limit: usize, types: &[u8], cause: u8, ca: u16) -> Written
+    requires { ⌜ (wellFormed (now m) ≡ true) × (before ≤ 65536) × (after ≤ 65536) × (25 ≤ limit) × (limit ≤ 253) × (length (now types) ≤ 64) × Slots (now types) × (cause < 64) ⌝ }
+    ensures { λ r. ⌜ (r ≡ wrote (length (now (out .entry))) before after (dataFor limit (now (types .entry)) cause ca s (tableOf (now (m .entry)) .stations))) × (now (out .exit) ≡ written (now (out .entry)) before after (dataFor limit (now (types .entry)) cause ca s (tableOf (now (m .entry)) .stations))) ⌝ }
+{
+    let r = reach::reach_of(m, ca);
+    put_data(out, before, after, m, r.base, r.n, r.every, s, limit, types, cause, ca)
 }

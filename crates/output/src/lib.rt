@@ -1,3 +1,6 @@
-// What goes out: the data of interrogations, sized first and then written; spontaneous and requested ASDUs; the end of initialisation. From `output.rs`.
+// What goes out: the data of interrogations and counter commands, sized first and then written, and single points. From `output.rs`.
 pub mod data;
 pub mod order;
+pub mod reach;
+pub mod single;
+pub mod types;
