@@ -1,6 +1,4 @@
 // The data of a read command: sized first, then written, one ASDU for each object in the command's order. From `handle_read` of `system_command_handler.rs` and `monitoring_asdu_requested` of `output.rs`.
-mod single;
-
 use asdu::cot::REQUEST;
 use limits::size::ADDRESS_OCTETS;
 use limits::size::HEADER_OCTETS;
@@ -58,7 +56,7 @@ fn put_found(out: &mut [u8], o: usize, m: &[u8], first: usize, h: usize, ioa: us
     let Spot::Held(at) = seats::find(m, first, h, ioa) else {
         return o;
     };
-    single::put_single(out, o, REQUEST, ca, m, at)
+    output::single::put_single(out, o, REQUEST, ca, m, at)
 }
 
 // Writes the requested ASDUs of a command's `count` objects, repeats included, one after another at the front of `out`, and gives their octets.
