@@ -1,6 +1,6 @@
 -- The laws as an entry has them, over a well-formed memory: what the code counts and writes are the requested ASDUs of the points asked for,
 -- of a planned station, and an address is missing exactly where the points asked for are none. Assumes nothing.
-use mathlib.Core.Path.{_≡_, refl, sym, ap, ap₂, _∙_}
+use mathlib.Core.Path.{_≡_, refl, sym, ap, _∙_}
 use mathlib.Core.List.{List, [], _∷_, _++_}
 use mathlib.Core.Bool.{Bool, true, false}
 use mathlib.Core.Option.{Option, none, some}
@@ -14,7 +14,7 @@ use Rattle.limits.proofs.Outcomes.{not-both}
 use Rattle.octets.specs.Number.{three, Octets}
 use Rattle.model.specs.declared.Point.{Point}
 use Rattle.model.specs.Place.{pointAt}
-use Rattle.table.specs.Table.{Station, Table, rising}
+use Rattle.table.specs.Table.{rising}
 use Rattle.table.specs.Memory.{pointsAt, tableOf, wellFormed}
 use Rattle.table.specs.Change.{stationOf, pointIn, known}
 use Rattle.table.proofs.Parse.{passed}
@@ -23,7 +23,7 @@ use Rattle.seats.specs.declared.Spot.{Spot}
 use Rattle.seats.specs.declared.Spot.the-variants.{Held, Missing}
 use Rattle.seats.specs.Seats.{seatAt}
 use Rattle.seats.specs.Find.{findAt}
-use Rattle.seats.proofs.Laws.{Seen, seat-law, absent-law}
+use Rattle.seats.proofs.Laws.{seat-law, absent-law}
 use Rattle.seats.proofs.Halving.{held-law, missing-law}
 use Rattle.report.specs.Packing.{joined}
 use Rattle.report.specs.Order.{pointsOf}

@@ -1,10 +1,10 @@
 -- The turns of the loop that writes: each requested ASDU goes in where the one before ended. Assumes nothing.
-use mathlib.Core.Path.{_≡_, refl, sym, ap, _∙_, subst}
+use mathlib.Core.Path.{_≡_, sym, ap, _∙_, subst}
 use mathlib.Core.List.{List, [], _++_}
 use Prim.Native.Nat.{ℕ, _+_, _-_, _≤_, _<_}
 use native.Mathlib.Omega.{arith}
 use native.Mathlib.Nat.{add-zero}
-use lib.ListN.{length, drop, take, length-append, take-append-drop}
+use lib.ListN.{length, length-append, take-append-drop}
 use Rattle.octets.specs.Over.{over}
 use Rattle.octets.specs.Number.{three}
 use Rattle.octets.proofs.Log.{Log, log-step, log-room, log-end}

@@ -4,7 +4,7 @@ use limits::size::ADDRESS_OCTETS;
 use limits::size::HEADER_OCTETS;
 use seats::Spot;
 ghost use mathlib.Core.Path.{_≡_};
-ghost use Prim.Native.Nat.{_+_, _*_, _≤_, _<_};
+ghost use Prim.Native.Nat.{_+_, _*_, _≤_};
 ghost use lib.ListN.{length};
 ghost use Rattle.seats.specs.Find.{findAt};
 ghost use Rattle.octets.specs.Over.{over};
@@ -23,7 +23,9 @@ fn found_octets(m: &[u8], first: usize, h: usize, ioa: usize) -> Asked
 {
     let spot = seats::find(m, first, h, ioa);
     match spot {
-        Spot::Held(at) => Asked::Known(HEADER_OCTETS + ADDRESS_OCTETS + limits::size::point_octets(m[at])),
+        Spot::Held(at) => Asked::Known(
+            HEADER_OCTETS + ADDRESS_OCTETS + limits::size::point_octets(m[at]),
+        ),
         Spot::Missing(_) => Asked::AddressMissing,
     }
 }
@@ -49,7 +51,15 @@ pub fn read_octets(m: &[u8], first: usize, h: usize, asdu: &[u8], count: usize) 
 }
 
 // Writes the requested ASDU of the point with an IOA into what remains of `out` after `o`, and gives the place after its last octet.
-fn put_found(out: &mut [u8], o: usize, m: &[u8], first: usize, h: usize, ioa: usize, ca: u16) -> usize
+fn put_found(
+    out: &mut [u8],
+    o: usize,
+    m: &[u8],
+    first: usize,
+    h: usize,
+    ioa: usize,
+    ca: u16,
+) -> usize
     requires { ⌜ (first + 48 * h ≤ length (now m)) × (o + length (requestedOf (now m) ca (findAt (now m) first h ioa)) ≤ length (now out)) ⌝ }
     ensures { λ r. ⌜ (r ≡ o + length (requestedOf (now (m .entry)) ca (findAt (now (m .entry)) first h ioa))) × (now (out .exit) ≡ over (now (out .entry)) o (requestedOf (now (m .entry)) ca (findAt (now (m .entry)) first h ioa))) ⌝ }
 {
@@ -60,7 +70,15 @@ fn put_found(out: &mut [u8], o: usize, m: &[u8], first: usize, h: usize, ioa: us
 }
 
 // Writes the requested ASDUs of a command's `count` objects, repeats included, one after another at the front of `out`, and gives their octets.
-pub fn put_requested(out: &mut [u8], m: &[u8], first: usize, h: usize, asdu: &[u8], count: usize, ca: u16) -> usize
+pub fn put_requested(
+    out: &mut [u8],
+    m: &[u8],
+    first: usize,
+    h: usize,
+    asdu: &[u8],
+    count: usize,
+    ca: u16,
+) -> usize
     requires { ⌜ (first + 48 * h ≤ length (now m)) × (6 + 3 * count ≤ length (now asdu)) × (length (requestedAt (now m) first h ca (now asdu) 6 count) ≤ length (now out)) ⌝ }
     ensures { λ r. ⌜ (r ≡ length (requestedAt (now (m .entry)) first h ca (now (asdu .entry)) 6 count)) × (now (out .exit) ≡ over (now (out .entry)) 0 (requestedAt (now (m .entry)) first h ca (now (asdu .entry)) 6 count)) ⌝ }
 {

@@ -1,7 +1,6 @@
 -- What is written and what is to come are the whole at each turn.
 use borrow.Author.Needs.{needs}
 use native.Mathlib.Omega.{arith}
-use mathlib.Core.Path.{sym}
 use Prim.Native.Nat.{_+_, _*_, _≤_}
 use denote.Ref.{now}
 use lib.ListN.{length}
