@@ -167,3 +167,23 @@ module _ (m : List ℕ) (u : Update) (o : Octets m) (w : wellFormed m ≡ true) 
       of-seat : (x : Seat) → seatAt m (u .ca) ≡ x → targetIn m u x ≡ Skipped → updateOf (tableOf m) u ≡ none
       of-seat (Here i first h) p f = of-spot i first h p (findAt m first h (u .ioa)) refl f
       of-seat NotPlanned p f = no-station p
+
+-- ---- the target as the code finds it
+
+module _ (m : List ℕ) (u : Update) where
+  pub target-unplanned : seatAt m (u .ca) ≡ NotPlanned → Skipped ≡ targetAt m u
+  unfolding targetAt
+  target-unplanned e = sym (ap (targetIn m u) e)
+
+  module _ (i first h : ℕ) (e : seatAt m (u .ca) ≡ Here i first h) where
+    pub target-missing : (a : ℕ) → findAt m first h (u .ioa) ≡ Missing a → Skipped ≡ targetAt m u
+    unfolding targetAt
+    target-missing a f = sym (ap (targetIn m u) e ∙ ap (targetOn m u) f)
+
+    pub target-other : (a : ℕ) → findAt m first h (u .ioa) ≡ Held a → (getD m a 0 ≡ u .kind → ⊥) → Skipped ≡ targetAt m u
+    unfolding targetAt
+    target-other a f n = sym (ap (targetIn m u) e ∙ ap (targetOn m u) f ∙ simp (ne-eqb _ _ n))
+
+    pub target-here : (a : ℕ) → findAt m first h (u .ioa) ≡ Held a → getD m a 0 ≡ u .kind → Place a ≡ targetAt m u
+    unfolding targetAt
+    target-here a f k = sym (ap (targetIn m u) e ∙ ap (targetOn m u) f ∙ simp (eq-eqb _ _ k))
