@@ -1,6 +1,6 @@
 -- Which point an update means: what the code finds in a well-formed memory is the point that the definition names. Assumes nothing.
 use mathlib.Core.Path.{_≡_, refl, sym, ap, _∙_, subst}
-use mathlib.Core.List.{List, [], _∷_, _++_}
+use mathlib.Core.List.{List, [], _∷_}
 use mathlib.Core.Bool.{Bool, true, false}
 use mathlib.Core.Option.{Option, none, some}
 use Prim.Native.Nat.{ℕ, _+_, _*_, _≤_}
@@ -14,7 +14,7 @@ use Rattle.octets.specs.Number.{two, Octets}
 use Rattle.model.specs.declared.Point.{Point}
 use Rattle.model.specs.Place.{pointAt}
 use Rattle.model.specs.Request.{element}
-use Rattle.table.specs.Table.{Station, Table, held, rising}
+use Rattle.table.specs.Table.{Station, held, rising}
 use Rattle.table.specs.Memory.{pointsAt, tableOf, wellFormed}
 use Rattle.table.specs.Change.{stationOf, seekIn, pointIn, known}
 use Rattle.table.proofs.Parse.{passed}
@@ -29,7 +29,6 @@ use Rattle.seats.specs.Find.{findAt}
 use Rattle.seats.proofs.Laws.{Seated, Seen, seat-law, absent-law}
 use Rattle.seats.proofs.Halving.{HeldAt, held-law, missing-law}
 use Rattle.answers.specs.Process.{Update, updated, updateOf}
-use Rattle.updates.specs.declared.Target.{Target}
 use Rattle.updates.specs.declared.Target.the-variants.{Place, Skipped}
 use Rattle.updates.specs.Updates.{targetOn, targetIn, targetAt}
 
@@ -91,7 +90,7 @@ module _ (m : List ℕ) (u : Update) (o : Octets m) (w : wellFormed m ≡ true) 
     found-update is =
         let seen : Seen m (u .ca) i first h = seat-law m (u .ca) i first h o w e in
         let q : pointIn (u .ioa) (seen .seat .s .points) ≡ some (pointAt m a) =
-          ap (pointIn (u .ioa)) (sym (seen .points)) ∙ spot-law m w o (u .ca) i first h e (u .ioa) a f .is-point in
+        ap (pointIn (u .ioa)) (sym (seen .points)) ∙ spot-law m w o (u .ca) i first h e (u .ioa) a f .is-point in
         ap (λ (x : Option Station). updated u (pointIn (u .ioa) (pointsOf x))) is ∙ ap (updated u) q
 
     place-found : eqb (getD m a 0) (u .kind) ≡ true → Targeted m u a
@@ -124,7 +123,7 @@ module _ (m : List ℕ) (u : Update) (o : Octets m) (w : wellFormed m ≡ true) 
     no-point =
         let seen : Seen m (u .ca) i first h = seat-law m (u .ca) i first h o w e in
         let k : known (u .ioa) (seen .seat .s .points) ≡ false =
-          ap (known (u .ioa)) (sym (seen .points)) ∙ missing-law m first h (u .ioa) a (ap (rising 0) (seen .points) ∙ seen .rises) f .not-known in
+        ap (known (u .ioa)) (sym (seen .points)) ∙ missing-law m first h (u .ioa) a (ap (rising 0) (seen .points) ∙ seen .rises) f .not-known in
         ap (λ (x : Option Station). updated u (pointIn (u .ioa) (pointsOf x))) (seen .seat .is-station) ∙ ap (updated u) (unknown-none (u .ioa) (seen .seat .s .points) k)
 
   -- no such station

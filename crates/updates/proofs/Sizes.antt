@@ -1,10 +1,10 @@
 -- What updates tell is known before the first is stored: neither type nor address of a point changes by an update, so that which updates apply
 -- and how many octets they tell depend on the table at entry alone. Assumes nothing.
 use mathlib.Core.Path.{_≡_, refl, sym, ap, ap₂, _∙_}
-use mathlib.Core.List.{List, [], _∷_, _++_, map}
+use mathlib.Core.List.{List, [], _∷_}
 use mathlib.Core.Bool.{Bool, true, false}
 use mathlib.Core.Option.{Option, none, some}
-use Prim.Native.Nat.{ℕ, _+_, _*_, _-_, _≤_, _<_}
+use Prim.Native.Nat.{ℕ, _+_}
 use native.Mathlib.Omega.{arith}
 use lib.ListN.{length, length-append}
 use lib.Dec.{eqb}
@@ -115,10 +115,12 @@ type-stays t u ca ioa = of-station (stationOf (u .ca) (t .stations)) refl
             ∙ ap (λ (x : ℕ). typeOf (pointIn ioa (pointsOf (stationOf x (t .stations))))) c
         by-test false k =
             ap (λ (x : Option Station). typeOf (pointIn ioa (pointsOf x))) (other-station (u .ca) ca (replaceIn p) (t .stations) (eqb-false _ _ k))
+
     of-found : (s : Station) → stationOf (u .ca) (t .stations) ≡ some s → (o : Option Point) → pointIn (u .ioa) (s .points) ≡ o
         → typeAt (tableWith t u (updated u o)) ca ioa ≡ typeAt t ca ioa
     of-found s is none f = refl
     of-found s is (some q) f = of-point s is q f (updated u (some q)) refl
+
     of-station : (o : Option Station) → stationOf (u .ca) (t .stations) ≡ o
         → typeAt (tableWith t u (updated u (pointIn (u .ioa) (pointsOf o)))) ca ioa ≡ typeAt t ca ioa
     of-station none is = refl

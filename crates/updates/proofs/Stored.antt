@@ -1,21 +1,21 @@
 -- What storing an update makes of the image of a table: the image of the table with the point's new value.
 -- The image is cut at the station, its points at the point, and the place at the element; the write is then a law of lists alone. Assumes nothing.
-use mathlib.Core.Path.{_≡_, refl, sym, ap, ap₂, _∙_}
-use mathlib.Core.List.{List, [], _∷_, _++_, map, append-assoc, append-nil}
+use mathlib.Core.Path.{_≡_, refl, sym, ap, _∙_}
+use mathlib.Core.List.{List, [], _∷_, _++_, append-assoc, append-nil}
 use mathlib.Core.Bool.{Bool, true, false}
-use mathlib.Core.Option.{Option, none, some}
-use Prim.Native.Nat.{ℕ, zero, suc, _+_, _*_, _-_, _/_, _%_, _≤_, _<_}
+use mathlib.Core.Option.{some}
+use Prim.Native.Nat.{ℕ, suc, _+_, _*_, _-_, _/_, _%_, _≤_, _<_}
 use native.Mathlib.Omega.{arith}
-use lib.ListN.{length, take, drop, getD, replicate, length-append, length-replicate, length-map, take-append-drop, drop-of-length-le}
+use lib.ListN.{length, take, drop, replicate, length-append, length-replicate, take-append-drop, drop-of-length-le}
 use lib.Seq.{length-take-le, take-all}
 use lib.Dec.{eqb}
-use borrow.Author.Tests.{eqb-true, eqb-false, eq-eqb, ne-eqb, leb-true, le-leb, lt-leb}
-use Rattle.limits.specs.Test.{_&_, pick, total}
+use borrow.Author.Tests.{eqb-true, eq-eqb, ne-eqb, leb-true, le-leb, lt-leb}
+use Rattle.limits.specs.Test.{pick, total}
 use Rattle.limits.specs.Size.{pointOctets}
 use Rattle.limits.proofs.Tests.{both}
 use Rattle.limits.proofs.Sizes.{point-at-most}
 use Rattle.octets.specs.Over.{over}
-use Rattle.octets.specs.Number.{twelve, zeros, Octets}
+use Rattle.octets.specs.Number.{twelve, zeros}
 use Rattle.octets.proofs.Laws.{over-at}
 use Rattle.octets.proofs.At.{zeros-are}
 use Rattle.model.specs.declared.Point.{Point}
@@ -131,9 +131,9 @@ parted ioa low (x ∷ xs) q r e = by-test (eqb (x .ioa) ioa) refl e (λ f. parte
           sought = simp (le-leb _ _ l);
           is-ok = ap pointOk (sym s) ∙ both _ _ (both _ _ r .1) .0;
           put = λ p k.
-            let n : x .ioa ≡ p .ioa = omega arith in
-            let h : p .ioa < x .ioa + 1 = omega arith in
-            simp (eq-eqb _ _ n) (ap (λ (l : List Point). p ∷ l) (none-replaced p (x .ioa + 1) xs h (both _ _ (both _ _ r .1) .1)));
+              let n : x .ioa ≡ p .ioa = omega arith in
+              let h : p .ioa < x .ioa + 1 = omega arith in
+              simp (eq-eqb _ _ n) (ap (λ (l : List Point). p ∷ l) (none-replaced p (x .ioa + 1) xs h (both _ _ (both _ _ r .1) .1)));
         }
     by-test false t f again =
         let w = again f in
@@ -146,8 +146,8 @@ parted ioa low (x ∷ xs) q r e = by-test (eqb (x .ioa) ioa) refl e (λ f. parte
           sought = simp (lt-leb _ _ l′) (ap suc (w .sought));
           is-ok = w .is-ok;
           put = λ p k.
-            let n : x .ioa ≡ p .ioa → ⊥ = omega arith in
-            simp (ne-eqb _ _ n) (ap (λ (l : List Point). x ∷ l) (w .put p k));
+              let n : x .ioa ≡ p .ioa → ⊥ = omega arith in
+              simp (ne-eqb _ _ n) (ap (λ (l : List Point). x ∷ l) (w .put p k));
         }
 
 -- ---- lists only: an element written over another, inside a place
@@ -193,7 +193,7 @@ module _ (k : ℕ) (before : List Station) (s : Station) (behind : List Station)
       let s′ : Station = withPoints (replaceIn p) s in
       let put : replaceIn p (s .points) ≡ w .below ++ (p ∷ w .above) = w .put p is-ioa in
       let same : length (replaceIn p (s .points)) ≡ held s =
-        ap length put ∙ length-append (w .below) (p ∷ w .above) ∙ sym (length-append (w .below) (q ∷ w .above)) ∙ ap length (sym (w .split)) in
+      ap length put ∙ length-append (w .below) (p ∷ w .above) ∙ sym (length-append (w .below) (q ∷ w .above)) ∙ ap length (sym (w .split)) in
       let a : total held (before ++ (s ∷ behind)) ≡ total held before + (held s + total held behind) = held-at before s behind in
       let b : total held (before ++ (s′ ∷ behind)) ≡ total held before + (length (replaceIn p (s .points)) + total held behind) = held-at before s′ behind in
       let ps = ap (placesOf (s .ca)) put ∙ places-at (s .ca) (w .below) p (w .above) in
@@ -217,7 +217,7 @@ module _ (k : ℕ) (before : List Station) (s : Station) (behind : List Station)
       let so : seekIn ioa (s .points) ≡ length (w .below) = w .sought in
       ap (λ (l : List ℕ). over l (at + 10) (take size v)) cut-old
       ∙ write-at (head k S n) (bodies before) (placesOf (s .ca) (w .below)) (ten (s .ca) q) (take size (q .value)) (after size) (placesOf (s .ca) (w .above)) rear
-        (take size v) (at + 10) (omega arith) (omega arith)
+      (take size v) (at + 10) (omega arith) (omega arith)
       ∙ sym cut-new
 
 -- Storing an element at a point's place makes of a table's image the image of the table with the point's new value.

@@ -1,12 +1,11 @@
 -- What an update tells: the octets that the code copies are the spontaneous ASDU of the point with its new value; and how many they are. Assumes nothing.
-use mathlib.Core.Path.{_≡_, refl, sym, ap, ap₂, _∙_}
+use mathlib.Core.Path.{_≡_, refl, sym, ap, _∙_}
 use mathlib.Core.List.{List, [], _∷_, _++_, append-nil, append-assoc}
-use mathlib.Core.Bool.{Bool, true, false}
-use mathlib.Core.Option.{Option, none, some}
-use Prim.Native.Nat.{ℕ, _+_, _*_, _-_, _/_, _%_, _≤_, _<_}
+use mathlib.Core.Option.{some}
+use Prim.Native.Nat.{ℕ, _+_, _*_, _-_, _/_, _%_, _≤_}
 use native.Mathlib.Omega.{arith}
-use native.Mathlib.Nat.{add-zero, add-assoc}
-use lib.ListN.{length, take, drop, getD, replicate, length-append, length-take, length-drop}
+use native.Mathlib.Nat.{add-zero}
+use lib.ListN.{length, take, drop, getD, replicate, length-append, length-drop}
 use lib.Seq.{getD-drop, length-take-le, take-take, take-at}
 use Rattle.limits.specs.Size.{pointOctets}
 use Rattle.limits.proofs.Sizes.{point-at-most}
@@ -102,7 +101,7 @@ module _ (m : List ℕ) (at : ℕ) (o : Octets m) (h : at + 18 ≤ length m) (q 
       let most : e ≤ 12 = point-at-most (q .kind) in
       let k : ℕ = getD m (at + 5) 0 in
       let x : take e (drop (at + 6) m) ≡ take e (element e (twelve m (at + 6))) =
-        element-part m (at + 6) e (omega arith) most ∙ sym (element-front e (twelve m (at + 6)) refl most) in
+      element-part m (at + 6) e (omega arith) most ∙ sym (element-front e (twelve m (at + 6)) refl most) in
       let a : take 3 (drop (at + 2) m) ≡ triple (q .ioa) = address-part m (at + 2) o (omega arith) ∙ ap (λ (n : ℕ). triple n) (sym is-ioa) in
       (λ j. header (dataHeader (sym is-kind j) 1 spontaneous ca) ++ (take 3 (drop (at + 2) m) ++ take (pointOctets (sym is-kind j)) (drop (at + 6) m)))
       ∙ (λ j. header (dataHeader (q .kind) 1 spontaneous ca) ++ (a j ++ x j))

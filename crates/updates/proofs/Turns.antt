@@ -1,12 +1,12 @@
 -- One update after another, as the code goes: what one stores and tells, what a skipped one leaves, and the turns of the two loops. Assumes nothing.
 use mathlib.Core.Path.{_≡_, refl, sym, ap, ap₂, _∙_, subst}
 use mathlib.Core.List.{List, [], _∷_, _++_}
-use mathlib.Core.Bool.{Bool, true, false}
-use mathlib.Core.Option.{Option, none, some}
-use Prim.Native.Nat.{ℕ, zero, suc, _+_, _*_, _-_, _≤_, _<_}
+use mathlib.Core.Bool.{true}
+use mathlib.Core.Option.{Option, some}
+use Prim.Native.Nat.{ℕ, suc, _+_, _*_, _-_, _≤_, _<_}
 use native.Mathlib.Omega.{arith}
 use native.Mathlib.Nat.{zero-add}
-use lib.ListN.{length, take, drop, getD}
+use lib.ListN.{length, take, drop, getD, length-append}
 use lib.Seq.{drop-append-seam}
 use Rattle.limits.specs.Test.{total}
 use Rattle.limits.specs.Size.{pointOctets}
@@ -15,18 +15,18 @@ use Rattle.octets.specs.Over.{over}
 use Rattle.octets.specs.Number.{two, three, Octets}
 use Rattle.model.specs.declared.Point.{Point}
 use Rattle.model.specs.Place.{pointAt}
-use Rattle.table.specs.Table.{Table, image, good}
+use Rattle.table.specs.Table.{Table, image}
 use Rattle.table.specs.Memory.{tableOf, wellFormed, parse}
-use Rattle.table.specs.Change.{changed}
 use Rattle.table.proofs.Parse.{Good, is-good, passed, printed, holds, parsed, parse-complete}
+use Rattle.octets.proofs.Log.{Log, log-start, log-step, log-room, log-end}
 use Rattle.registry.specs.Effect.{holding}
 use Rattle.asdu.specs.Cause.{spontaneous}
-use Rattle.answers.specs.Process.{Update, updatesAt, updateOf, replaceIn, tableWith, tableAfter, toldOf, toldBy}
+use Rattle.answers.specs.Process.{Update, updatesAt, updateOf, tableWith, tableAfter, toldOf, toldBy}
 use Rattle.answers.proofs.Values.{point-in}
-use Rattle.answers.proofs.Quiet.{AllWhole, updates-whole, update-still}
+use Rattle.answers.proofs.Quiet.{updates-whole, update-still}
 use Rattle.updates.specs.declared.Target.the-variants.{Place, Skipped}
 use Rattle.updates.specs.Updates.{updateAt, targetAt, stored, singleFrom, toldOne, leftBy}
-use Rattle.updates.proofs.Meant.{revalued, Targeted, target-place, target-skipped}
+use Rattle.updates.proofs.Meant.{target-place, target-skipped}
 use Rattle.updates.proofs.Stored.{stored-image}
 use Rattle.updates.proofs.Told.{element-part, told-is, length-told}
 use Rattle.updates.proofs.Sizes.{octetsTold, length-told-by}
@@ -76,8 +76,8 @@ module _ (m us : List ℕ) (at : ℕ) (o : Octets m) (w : wellFormed m ≡ true)
         let v : List ℕ = updateAt us at .value in
         let rest : List ℕ = drop (length (image t)) m in
         let x : take (pointOctets (getD us (at + 5) 0)) (drop (at + 6) us) ≡ take (pointOctets (q .kind)) v =
-          element-part us (at + 6) (pointOctets (getD us (at + 5) 0)) (omega arith) (point-at-most (getD us (at + 5) 0))
-          ∙ ap (λ (k : ℕ). take (pointOctets k) v) (sym (d .is-kind)) in
+        element-part us (at + 6) (pointOctets (getD us (at + 5) 0)) (omega arith) (point-at-most (getD us (at + 5) 0))
+        ∙ ap (λ (k : ℕ). take (pointOctets k) v) (sym (d .is-kind)) in
         ap₂ (λ (y z : List ℕ). over y (place + 10) z) (printed m o (passed m w)) x
         ∙ stored-image t rest (updateAt us at .ca) (updateAt us at .ioa) (d .station) (d .found) q v place (d .rises) (d .is-point) found-ioa refl (d .place)
         ∙ ap (λ (y : Option Point). holding m t (tableWith t (updateAt us at) y)) (sym (d .update))
@@ -140,12 +140,12 @@ turned m us at left m′ o w h e =
     record {
       formed = f .0;
       leaves =
-        ap (λ (x : List Update). holding m t (tableAfter t x)) s
-        ∙ ap (λ (y : List ℕ). image (tableAfter t′ (updatesAt us (at + 18) (left - 1))) ++ y) (sym past)
-        ∙ ap (λ (x : Table). holding m′ x (tableAfter x (updatesAt us (at + 18) (left - 1)))) (sym (f .1));
+          ap (λ (x : List Update). holding m t (tableAfter t x)) s
+          ∙ ap (λ (y : List ℕ). image (tableAfter t′ (updatesAt us (at + 18) (left - 1))) ++ y) (sym past)
+          ∙ ap (λ (x : Table). holding m′ x (tableAfter x (updatesAt us (at + 18) (left - 1)))) (sym (f .1));
       tells =
-        ap (toldBy t) s
-        ∙ ap (λ (x : Table). toldOne m us at ++ toldBy x (updatesAt us (at + 18) (left - 1))) (sym (f .1));
+          ap (toldBy t) s
+          ∙ ap (λ (x : Table). toldOne m us at ++ toldBy x (updatesAt us (at + 18) (left - 1))) (sym (f .1));
     }
 
 -- With none left the memory is as it was, and nothing is told.
@@ -156,3 +156,58 @@ left-end m us at left o w h = printed m o (passed m w) ∙ ap (λ (x : List Upda
 pub told-end : (m us : List ℕ) (at left : ℕ) → left ≤ 0 → toldByAll m us at left ≡ []
 unfolding toldBy
 told-end m us at left h = ap (toldBy (tableOf m)) (updates-end us at left h)
+
+-- Where the loop stands: the memory holds a table, what is left to do makes of it what all updates make of the first, and so with what is told.
+pub record Going (m₀ us : List ℕ) (n : ℕ) (s₀ m s : List ℕ) (o at left : ℕ) : Type 0 where
+  pub octets : Octets m
+  pub formed : wellFormed m ≡ true
+  pub whole : at + 18 * left ≤ length us
+  pub same : length m ≡ length m₀
+  pub leaves : leftByAll m₀ us 0 n ≡ leftByAll m us at left
+  pub log : Log s₀ 0 (toldByAll m₀ us 0 n) s o (toldByAll m us at left)
+
+pub going-start : (m us : List ℕ) (n : ℕ) (s : List ℕ) → Octets m → wellFormed m ≡ true → 18 * n ≤ length us → Going m us n s m s 0 0 n
+going-start m us n s o w h =
+    record { octets = o; formed = w; whole = omega arith; same = refl; leaves = refl; log = log-start s 0 (toldByAll m us 0 n) (omega arith) }
+
+module _ (m₀ us : List ℕ) (n : ℕ) (s₀ m s : List ℕ) (o at left : ℕ) (g : Going m₀ us n s₀ m s o at left) where
+  -- The next ASDU has room.
+  pub going-room : 0 < left → length (toldByAll m₀ us 0 n) ≤ length s₀ → o + length (toldOne m us at) ≤ length s
+  going-room h r =
+      let t = turned m us at left (leftBy m us at) (g .octets) (g .formed) h refl in
+      let a : o + length (toldByAll m us at left) ≤ length s = log-room s₀ (toldByAll m₀ us 0 n) s (toldByAll m us at left) 0 o (g .log) (omega arith) in
+      let b : length (toldByAll m us at left) ≡ length (toldOne m us at) + length (toldByAll (leftBy m us at) us (at + 18) (left - 1)) =
+      ap length (t .tells) ∙ length-append (toldOne m us at) (toldByAll (leftBy m us at) us (at + 18) (left - 1)) in
+      omega arith
+
+  -- One turn.
+  pub going-on : (m′ s′ : List ℕ) (o′ : ℕ) → 0 < left → length (toldByAll m₀ us 0 n) ≤ length s₀ → Octets m′ → length m′ ≡ length m
+      → o′ ≡ o + length (toldOne m us at) → m′ ≡ leftBy m us at → s′ ≡ over s o (toldOne m us at) → Going m₀ us n s₀ m′ s′ o′ (at + 18) (left - 1)
+  going-on m′ s′ o′ h r oc l eo em es =
+      let t = turned m us at left m′ (g .octets) (g .formed) h em in
+      let A : List ℕ = toldOne m us at in
+      let todo : List ℕ = toldByAll m′ us (at + 18) (left - 1) in
+      let all : List ℕ = toldByAll m₀ us 0 n in
+      let before : Log s₀ 0 all s o (A ++ todo) = subst (λ (x : List ℕ). Log s₀ 0 all s o x) (t .tells) (g .log) in
+      let on : Log s₀ 0 all (over s o A) (o + length A) todo = log-step s₀ all s A todo 0 o before (going-room h r) in
+      let w : at + 18 * left ≤ length us = g .whole in
+      record {
+        octets = oc;
+        formed = t .formed;
+        whole = omega arith;
+        same = l ∙ g .same;
+        leaves = g .leaves ∙ t .leaves;
+        log = subst (λ (x : List ℕ). Log s₀ 0 all x o′ todo) (sym es) (subst (λ (x : ℕ). Log s₀ 0 all (over s o A) x todo) (sym eo) on);
+      }
+
+  -- None left: all is stored and told.
+  pub going-end : left ≤ 0 → (o ≡ length (toldByAll m₀ us 0 n)) × (m ≡ leftByAll m₀ us 0 n) × (s ≡ over s₀ 0 (toldByAll m₀ us 0 n))
+  going-end h =
+      let all : List ℕ = toldByAll m₀ us 0 n in
+      let e = log-end s₀ all s 0 o (subst (λ (x : List ℕ). Log s₀ 0 all s o x) (told-end m us at left h) (g .log)) (omega arith) in
+      (e .0 ∙ zero-add (length all), left-end m us at left (g .octets) (g .formed) h ∙ sym (g .leaves), e .1)
+
+-- Nothing written leaves a memory as it was.
+pub over-none : (m : List ℕ) → m ≡ over m 0 []
+unfolding over
+over-none m = refl

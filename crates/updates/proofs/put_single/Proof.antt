@@ -1,5 +1,5 @@
 -- Header, address and element, each written where the one before ended. Assumes nothing.
-use mathlib.Core.Path.{_≡_, sym, ap, _∙_}
+use mathlib.Core.Path.{_≡_, ap, _∙_}
 use mathlib.Core.List.{List}
 use Prim.Native.Nat.{ℕ, _+_}
 use native.Mathlib.Omega.{arith}
@@ -7,7 +7,6 @@ use denote.Ref.{now}
 use lib.ListN.{take, drop}
 use Rattle.limits.specs.Size.{pointOctets}
 use Rattle.octets.specs.Over.{over}
-use Rattle.asdu.specs.Header.{header}
 use Rattle.asdu.proofs.Laws.{length-header}
 use Rattle.report.specs.Report.{dataHeader}
 use Rattle.updates.proofs.Told.{single-over}

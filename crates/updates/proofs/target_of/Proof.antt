@@ -2,7 +2,7 @@
 use borrow.Author.Needs.{needs}
 use native.Mathlib.Omega.{arith}
 use mathlib.Core.Path.{_≡_, sym, ap, _∙_}
-use Prim.Native.Nat.{ℕ, _+_}
+use Prim.Native.Nat.{_+_}
 use denote.Ref.{now}
 use Rattle.octets.specs.Number.{two, three, Octets}
 use Rattle.seats.specs.Seats.{seatAt}
