@@ -1,17 +1,14 @@
 -- The ways out of a process command, as the code goes: each gives back what `answeredOn` says and leaves the memories that `lentAfter` says. Assumes nothing.
 use mathlib.Core.Path.{_≡_, refl, sym, ap, _∙_, subst}
-use mathlib.Core.List.{List, [], _∷_, _++_}
-use mathlib.Core.Bool.{Bool, true, false, _||_}
+use mathlib.Core.List.{List, []}
+use mathlib.Core.Bool.{Bool, true, false}
 use mathlib.Core.Option.{some}
-use Prim.Native.Nat.{ℕ, _+_, _*_, _/_, _≤_, _<_}
+use Prim.Native.Nat.{ℕ, _+_, _/_, _≤_, _<_}
 use native.Mathlib.Omega.{arith}
 use lib.ListN.{length}
-use lib.Dec.{leb}
 use borrow.Author.Tests.{le-leb, lt-leb, leb-true}
-use Rattle.limits.specs.Test.{_&_, pick}
+use Rattle.limits.specs.Test.{pick}
 use Rattle.limits.specs.Size.{standardLimit}
-use Rattle.limits.specs.Outcome.{isDone}
-use Rattle.limits.specs.declared.outcome.Outcome.{Outcome}
 use Rattle.limits.specs.declared.outcome.Outcome.the-variants.{Done, Silent, Malformed, TableNotWellFormed, AnswerShort, SpontaneousShort, BadProposal}
 use Rattle.limits.proofs.Tests.{both}
 use Rattle.octets.specs.Over.{over}
@@ -25,7 +22,7 @@ use Rattle.asdu.specs.declared.command.Reading.the-variants.{LengthOutOfRange, 
 use Rattle.asdu.proofs.Lengths.{length-reply}
 use Rattle.answers.specs.declared.Answered.{Answered}
 use Rattle.answers.specs.Said.{Said, Lent, fronted, outcomeWith, answeredFrom, lentFrom, answeredOn, lentAfter}
-use Rattle.answers.specs.Process.{Update, Proposal, updatesAt, updatesIn, proposalOk, processCauseTaken, readUpdates, processReply, processFrom, toldBy, tableAfter}
+use Rattle.answers.specs.Process.{Update, Proposal, updatesAt, updatesIn, proposalOk, processCauseTaken, processFrom, toldBy, tableAfter}
 use Rattle.answers.proofs.Ends.{Ends, front-is, ends-no-table, ends-nothing, ends-refused}
 use Rattle.commands.specs.Entry.{proposalOf, lentTo, refusal, confirmationOf}
 
@@ -38,6 +35,11 @@ pub met : (f : Table → Said) (l : Lent) (r : Answered) (table answer spontaneo
     → Met f l r table answer spontaneous
 met f l r table answer spontaneous e =
     (e .answers, ap (λ (x : Lent). x .table) (e .leaves), ap (λ (x : Lent). x .answer) (e .leaves), ap (λ (x : Lent). x .spontaneous) (e .leaves))
+
+-- the same of a result that is known to be another
+pub gives : (f : Table → Said) (l : Lent) (r r′ : Answered) (table answer spontaneous : List ℕ) → r ≡ r′
+    → Met f l r′ table answer spontaneous → Met f l r table answer spontaneous
+gives f l r r′ table answer spontaneous e h = (e ∙ h .0, h .1, h .2, h .3)
 
 -- ---- commands that tell something
 
@@ -77,6 +79,11 @@ module _ (f : Table → Said) (l : Lent) (w : wellFormed (l .table) ≡ true) (d
         leaves = s ∙ sym (ap (lentFrom f l) p ∙ simp d);
       }
 
+-- A good proposal has at most 243 octets of objects.
+pub most-reply : (kind : ℕ) (objects : List ℕ) → proposalOk standardLimit kind objects ≡ true → length objects ≤ 243
+unfolding proposalOk
+most-reply kind objects ok = leb-true _ _ (both _ _ (both _ _ ok .1) .0)
+
 -- ---- the updates that are read
 
 -- None of a negative proposal is read.
@@ -112,12 +119,12 @@ module _ (table answer spontaneous : List ℕ) (negative : Bool) (kind : ℕ) (o
 
       module _ (ok : proposalOk standardLimit kind objects ≡ true) where
         said-is : said (tableOf table) ≡ record {
-              outcome = Done;
-              answer = confirmationOf c negative kind objects;
-              told = toldBy (tableOf table) read;
-              after = tableAfter (tableOf table) read;
-              clock = [];
-            }
+          outcome = Done;
+          answer = confirmationOf c negative kind objects;
+          told = toldBy (tableOf table) read;
+          after = tableAfter (tableOf table) read;
+          clock = [];
+        }
         unfolding processFrom
         said-is =
             simp (taken, ok)

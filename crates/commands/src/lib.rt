@@ -92,7 +92,13 @@ fn command_reply_cot(cause: u8) -> u8
 }
 
 // Writes the confirmation at the front of `answer`: the Rust's `send_command_confirmation`.
-fn put_command_confirmation(answer: &mut [u8], command: Command, negative: bool, kind: u8, reply: &[u8]) -> usize
+fn put_command_confirmation(
+    answer: &mut [u8],
+    command: Command,
+    negative: bool,
+    kind: u8,
+    reply: &[u8],
+) -> usize
     requires { ⌜ (length (now reply) ≤ 243) × (6 + length (now reply) ≤ length (now answer)) ⌝ }
     ensures { λ r. ⌜ (r ≡ 6 + length (now (reply .entry))) × (now (answer .exit) ≡ over (now (answer .entry)) 0 (confirmationOf command negative kind (now (reply .entry)))) ⌝ }
 {
@@ -116,7 +122,16 @@ fn refused(outcome: Outcome) -> Answered
 }
 
 // Answers a command that was read: 1, 6, 5, 4, each known before anything is written; else the updates are stored and told, and the command confirmed.
-fn handle_process_command(table: &mut [u8], command: Command, negative: bool, reply_type: u8, reply: &[u8], updates: &[u8], answer: &mut [u8], spontaneous: &mut [u8]) -> Answered
+fn handle_process_command(
+    table: &mut [u8],
+    command: Command,
+    negative: bool,
+    reply_type: u8,
+    reply: &[u8],
+    updates: &[u8],
+    answer: &mut [u8],
+    spontaneous: &mut [u8],
+) -> Answered
     requires { ⌜ wellFormed (now table) ≡ true ⌝ }
     ensures { λ r. ⌜ (r ≡ answeredOn (processFrom standardLimit (proposalOf negative «reply_type» (now (reply .entry)) (now (updates .entry))) (Parsed command)) (lentTo (now (table .entry)) (now (answer .entry)) (now (spontaneous .entry)))) × (now (table .exit) ≡ lentAfter (processFrom standardLimit (proposalOf negative «reply_type» (now (reply .entry)) (now (updates .entry))) (Parsed command)) (lentTo (now (table .entry)) (now (answer .entry)) (now (spontaneous .entry))) .table) × (now (answer .exit) ≡ lentAfter (processFrom standardLimit (proposalOf negative «reply_type» (now (reply .entry)) (now (updates .entry))) (Parsed command)) (lentTo (now (table .entry)) (now (answer .entry)) (now (spontaneous .entry))) .answer) × (now (spontaneous .exit) ≡ lentAfter (processFrom standardLimit (proposalOf negative «reply_type» (now (reply .entry)) (now (updates .entry))) (Parsed command)) (lentTo (now (table .entry)) (now (answer .entry)) (now (spontaneous .entry))) .spontaneous) ⌝ }
 {
@@ -144,7 +159,16 @@ fn handle_process_command(table: &mut [u8], command: Command, negative: bool, re
 }
 
 // The entry for process commands: a caller's proposal has a negative flag, a reply type, reply objects and updates.
-pub fn process_command(table: &mut [u8], asdu: &[u8], negative: bool, reply_type: u8, reply: &[u8], updates: &[u8], answer: &mut [u8], spontaneous: &mut [u8]) -> Answered
+pub fn process_command(
+    table: &mut [u8],
+    asdu: &[u8],
+    negative: bool,
+    reply_type: u8,
+    reply: &[u8],
+    updates: &[u8],
+    answer: &mut [u8],
+    spontaneous: &mut [u8],
+) -> Answered
     ensures { λ r. ⌜ (r ≡ answeredOn (processSaid standardLimit (proposalOf negative «reply_type» (now (reply .entry)) (now (updates .entry))) (now (asdu .entry))) (lentTo (now (table .entry)) (now (answer .entry)) (now (spontaneous .entry)))) × (now (table .exit) ≡ lentAfter (processSaid standardLimit (proposalOf negative «reply_type» (now (reply .entry)) (now (updates .entry))) (now (asdu .entry))) (lentTo (now (table .entry)) (now (answer .entry)) (now (spontaneous .entry))) .table) × (now (answer .exit) ≡ lentAfter (processSaid standardLimit (proposalOf negative «reply_type» (now (reply .entry)) (now (updates .entry))) (now (asdu .entry))) (lentTo (now (table .entry)) (now (answer .entry)) (now (spontaneous .entry))) .answer) × (now (spontaneous .exit) ≡ lentAfter (processSaid standardLimit (proposalOf negative «reply_type» (now (reply .entry)) (now (updates .entry))) (now (asdu .entry))) (lentTo (now (table .entry)) (now (answer .entry)) (now (spontaneous .entry))) .spontaneous) ⌝ }
 {
     if !wellformed::well_formed(table) {

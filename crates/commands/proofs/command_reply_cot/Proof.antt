@@ -1,17 +1,14 @@
-use borrow.Author.Needs.{needs}
+-- By the cause. Assumes nothing.
+use borrow.Author.Tests.{eq-eqb, ne-eqb}
 use native.Mathlib.Omega.{arith}
 use Rattle.commands.proofs.command_reply_cot.Statement.{statement}
 use Rattle.commands.proofs.command_reply_cot.Tie as tie
-use Rattle.commands.proofs.command_reply_cot.Reads as reads
-use Rattle.commands.proofs.command_reply_cot.Lts as lts
 
--- src/lib.rt:89:9
 returns : tie.Need-returns
-returns c = search needs
+returns c = (simp (eq-eqb _ _ (c .if1 .taken)), omega arith)
 
--- src/lib.rt:85:1
 returns-2 : tie.Need-returns-2
-returns-2 c = search needs
+returns-2 c = (simp (ne-eqb _ _ (c .if1 .left)), omega arith)
 
 pub command-reply-cot-spec : {M : Type 1} → statement M
 command-reply-cot-spec = tie.close (tie.spec returns returns-2)

@@ -1,21 +1,16 @@
-use borrow.Author.Needs.{needs}
-use native.Mathlib.Omega.{arith}
+-- Each cause is one test of the definition. Assumes nothing.
+use borrow.Author.Tests.{eq-eqb, ne-eqb}
 use Rattle.commands.proofs.is_command_cot.Statement.{statement}
 use Rattle.commands.proofs.is_command_cot.Tie as tie
-use Rattle.commands.proofs.is_command_cot.Reads as reads
-use Rattle.commands.proofs.is_command_cot.Lts as lts
 
--- src/lib.rt:38:9
 returns : tie.Need-returns
-returns c = search needs
+returns c = simp (eq-eqb _ _ (c .if1 .taken))
 
--- src/lib.rt:41:9
 returns-2 : tie.Need-returns-2
-returns-2 c = search needs
+returns-2 c = simp (ne-eqb _ _ (c .before .if1 .left), eq-eqb _ _ (c .if2 .taken))
 
--- src/lib.rt:34:1
 returns-3 : tie.Need-returns-3
-returns-3 c = search needs
+returns-3 c = simp (ne-eqb _ _ (c .before .if1 .left), ne-eqb _ _ (c .if2 .left))
 
 pub is-command-cot-spec : {M : Type 1} → statement M
 is-command-cot-spec = tie.close (tie.spec returns returns-2 returns-3)

@@ -1,39 +1,54 @@
+-- The three tests in their order. Assumes nothing.
 use borrow.Author.Needs.{needs}
+use borrow.Author.Tests.{not-true, not-false, lt-leb, le-leb}
 use native.Mathlib.Omega.{arith}
+use mathlib.Core.Path.{_≡_, sym, _∙_}
+use mathlib.Core.Bool.{true, false}
+use Prim.Native.Nat.{_+_, _%_}
+use denote.Ref.{now}
+use lib.ListN.{length}
+use lib.Dec.{leb, eqb}
+use Rattle.limits.specs.Test.{_&_}
+use Rattle.limits.specs.Size.{classOf}
+use Rattle.asdu.specs.Command.{isProcess}
+use Rattle.answers.specs.Process.{proposalOk}
 use Rattle.commands.proofs.is_proposal.Statement.{statement}
 use Rattle.commands.proofs.is_proposal.Tie as tie
-use Rattle.commands.proofs.is_proposal.Reads as reads
-use Rattle.commands.proofs.is_proposal.Lts as lts
-use Rattle.commands.proofs.is_supported_command_type.Reads as is-supported-command-type-reads
-use Rattle.limits.proofs.size.element_octets.Reads as element-octets-reads
 
--- src/lib.rt:62:9
 is-supported-command-type-requires : tie.Need-is-supported-command-type-requires
 is-supported-command-type-requires c κs = search needs
 
--- src/lib.rt:63:9
 returns : tie.Need-returns
-returns c = search needs
+unfolding proposalOk _&_
+returns c =
+    let d : isProcess (classOf (c .before .before .before .args .kind)) ≡ false = sym (c .before .is-supported-command-type .ensures) ∙ not-true _ (c .if1 .taken) in
+    simp d
 
--- src/lib.rt:66:9
 returns-2 : tie.Need-returns-2
-returns-2 c = search needs
+unfolding proposalOk _&_
+returns-2 c =
+    let a = c .before .before .before .before .args in
+    let d : isProcess (classOf (a .kind)) ≡ true = sym (c .before .before .is-supported-command-type .ensures) ∙ not-false _ (c .before .if1 .left) in
+    let l : leb (length (now (a .reply))) 243 ≡ false = lt-leb (length (now (a .reply))) 243 (omega arith) in
+    simp (d, l)
 
--- src/lib.rt:68:9
 element-octets-requires : tie.Need-element-octets-requires
 element-octets-requires c κs = search needs
 
--- src/lib.rt:69:20
 add-result : tie.Need-add-result
 add-result c = search needs
 
--- src/lib.rt:69:5
 rem-result : tie.Need-rem-result
 rem-result c = search needs
 
--- src/lib.rt:59:1
 returns-3 : tie.Need-returns-3
-returns-3 c = search needs
+unfolding proposalOk _&_
+returns-3 c =
+    let a = c .before .before .before .before .before .args in
+    let d : isProcess (classOf (a .kind)) ≡ true = sym (c .before .before .before .is-supported-command-type .ensures) ∙ not-false _ (c .before .before .if1 .left) in
+    let l : leb (length (now (a .reply))) 243 ≡ true = le-leb (length (now (a .reply))) 243 (omega arith) in
+    let e = c .element-octets .ensures .0 in
+    simp (d, l) (λ j. eqb (length (now (a .reply)) % (3 + e j)) 0)
 
 pub is-proposal-spec : {M : Type 1} → statement M
 is-proposal-spec =

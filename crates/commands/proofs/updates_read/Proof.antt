@@ -1,17 +1,13 @@
-use borrow.Author.Needs.{needs}
+-- By the flag. Assumes nothing.
 use native.Mathlib.Omega.{arith}
 use Rattle.commands.proofs.updates_read.Statement.{statement}
 use Rattle.commands.proofs.updates_read.Tie as tie
-use Rattle.commands.proofs.updates_read.Reads as reads
-use Rattle.commands.proofs.updates_read.Lts as lts
 
--- src/lib.rt:77:9
 returns : tie.Need-returns
-returns c = search needs
+returns c = (simp (c .if1 .taken), omega arith)
 
--- src/lib.rt:73:1
 returns-2 : tie.Need-returns-2
-returns-2 c = search needs
+returns-2 c = (simp (c .if1 .left), omega arith)
 
 pub updates-read-spec : {M : Type 1} → statement M
 updates-read-spec = tie.close (tie.spec returns returns-2)
