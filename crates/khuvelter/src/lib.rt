@@ -61,9 +61,11 @@ fn place_reply(reply: registry::Reply) -> Reply
     ensures { λ r. ⌜ r ≡ placeReply reply ⌝ }
 {
     let outcome = reply.outcome;
+    let number = outcome.number();
+    let place = narrow(reply.place);
     Reply {
-        number: outcome.number(),
-        place: narrow(reply.place),
+        number: number,
+        place: place,
         octets: 0,
         spontaneous: 0,
     }
