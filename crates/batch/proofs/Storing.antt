@@ -79,9 +79,9 @@ module _ (m : List ℕ) (o : Octets m) (w : wellFormed m ≡ true) (q : Request)
     not-held at f =
         let z = seat-law m (q .ca) i first h o w s in
         let k : known (q .ioa) (z .seat .s .points) ≡ true =
-          ap (known (q .ioa)) (sym (z .points)) ∙ held-law m first h (q .ioa) at (rw (z .points) (z .rises)) f .is-known in
+        ap (known (q .ioa)) (sym (z .points)) ∙ held-law m first h (q .ioa) at (rw (z .points) (z .rises)) f .is-known in
         let n : known (q .ioa) (z .seat .s .points) ≡ false =
-          ap (isRegistered (q .ioa)) (sym (z .seat .is-station)) ∙ fault-less (tableOf m) q e .new in
+        ap (isRegistered (q .ioa)) (sym (z .seat .is-station)) ∙ fault-less (tableOf m) q e .new in
         not-both (sym n ∙ k)
 
     -- It is put in: what the code asks of the numbers, and the memory with it.
@@ -118,6 +118,7 @@ room-first t i q qs e = by-test (isDone (roomFault t (stationOf (q .ca) (t .stat
   where
     refusal : Effect
     refusal = record { outcome = roomFault t (stationOf (q .ca) (t .stations)); place = i; after = t }
+
     by-test : (b : Bool) → isDone (roomFault t (stationOf (q .ca) (t .stations))) ≡ b → pick b (roomTests (withRequest t q) (i + 1) qs) refusal .outcome ≡ Done
         → (roomFault t (stationOf (q .ca) (t .stations)) ≡ Done) × (pick b (roomTests (withRequest t q) (i + 1) qs) refusal ≡ roomTests (withRequest t q) (i + 1) qs)
     by-test true d f = (done-is _ d, refl)

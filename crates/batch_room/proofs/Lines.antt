@@ -81,13 +81,13 @@ asked-here m taken base ca i sb n s ss t b l r =
       share = ap (λ (x : Holding). record { held = x .held; reservation = x .reservation; ceiling = x .ceiling }) l ∙ ap (λ (x : ℕ). shareWith m x (getD taken i 0)) b;
       inside = (omega arith, omega arith);
       one-more = λ f e k.
-        let v : getD (set taken i (getD taken i 0 + 1)) i 0 ≡ getD taken i 0 + 1 = getD-set-same taken i (getD taken i 0 + 1) 0 k in
-        let x : length (f (s .points)) ≡ two m (sb + 6) + getD (set taken i (getD taken i 0 + 1)) i 0 = omega arith in
-        let y : holdingOf (withPoints f s) ≡ lineWith m sb (getD (set taken i (getD taken i 0 + 1)) i 0) =
+          let v : getD (set taken i (getD taken i 0 + 1)) i 0 ≡ getD taken i 0 + 1 = getD-set-same taken i (getD taken i 0 + 1) 0 k in
+          let x : length (f (s .points)) ≡ two m (sb + 6) + getD (set taken i (getD taken i 0 + 1)) i 0 = omega arith in
+          let y : holdingOf (withPoints f s) ≡ lineWith m sb (getD (set taken i (getD taken i 0 + 1)) i 0) =
           λ z. record { ca = l z .ca; reservation = l z .reservation; ceiling = l z .ceiling; held = x z } in
-        let w : map holdingOf ss ≡ linesAt m (set taken i (getD taken i 0 + 1)) (i + 1) (sb + 8) n =
+          let w : map holdingOf ss ≡ linesAt m (set taken i (getD taken i 0 + 1)) (i + 1) (sb + 8) n =
           r ∙ sym (lines-past m taken i (getD taken i 0 + 1) (i + 1) (sb + 8) n (omega arith)) in
-        simp (eq-eqb _ _ c) (λ z. y z ∷ w z);
+          simp (eq-eqb _ _ c) (λ z. y z ∷ w z);
     }
 
 -- the station of a later line
@@ -105,11 +105,11 @@ asked-later m taken base ca j i sb n s ss t l q =
       share = q .share;
       inside = (omega arith, omega arith);
       one-more = λ f e k.
-        let d : i ≡ j → ⊥ = omega arith in
-        let v : getD taken i 0 ≡ getD (set taken j (getD taken j 0 + 1)) i 0 = sym (getD-set-other taken j i (getD taken j 0 + 1) 0 d) in
-        let y : holdingOf s ≡ lineWith m sb (getD (set taken j (getD taken j 0 + 1)) i 0) = l ∙ ap (lineWith m sb) v in
-        let w = q .one-more f e k in
-        simp (ne-eqb _ _ c) (λ z. y z ∷ w z);
+          let d : i ≡ j → ⊥ = omega arith in
+          let v : getD taken i 0 ≡ getD (set taken j (getD taken j 0 + 1)) i 0 = sym (getD-set-other taken j i (getD taken j 0 + 1) 0 d) in
+          let y : holdingOf s ≡ lineWith m sb (getD (set taken j (getD taken j 0 + 1)) i 0) = l ∙ ap (lineWith m sb) v in
+          let w = q .one-more f e k in
+          simp (ne-eqb _ _ c) (λ z. y z ∷ w z);
     }
 
 -- no lines for a station, no station for a line
