@@ -8,13 +8,9 @@ use native.Mathlib.Omega.{arith}
 use lib.ListN.{length, drop}
 use Rattle.limits.specs.Test.{_&_, pick, total}
 use Rattle.limits.specs.Outcome.{isDone}
-use Rattle.limits.specs.Share.{admissionIn, heldOf, unmetOf, freeOf, Sound}
-use Rattle.limits.specs.declared.share.Share.{Share}
-use Rattle.limits.specs.declared.share.Admission.the-variants.{Admitted}
 use Rattle.limits.specs.declared.outcome.Outcome.{Outcome}
 use Rattle.limits.specs.declared.outcome.Outcome.the-variants.{Done, AlreadyRegistered, TableNotWellFormed}
 use Rattle.limits.proofs.Outcomes.{not-both, done-is, first-done}
-use Rattle.limits.proofs.Shares.{admitted-has-place}
 use Rattle.octets.specs.Number.{two, Octets}
 use Rattle.model.specs.declared.Request.{Request}
 use Rattle.model.specs.Request.{ownFault, pointOf}
@@ -23,9 +19,7 @@ use Rattle.model.proofs.Requests.Unplanned.{unknown, station}
 use Rattle.table.specs.Table.{Station, Table, held, shareOf, image}
 use Rattle.table.specs.Memory.{tableOf, wellFormed, parse}
 use Rattle.table.specs.Change.{stationOf, seekIn, known, added}
-use Rattle.table.proofs.Parse.{Good, holds, parse-some, parse-none}
-use Rattle.table.proofs.Shares.{good-sound, total-held}
-use Rattle.table.proofs.Change.{Found, shares-split}
+use Rattle.table.proofs.Parse.{holds, parse-some, parse-none}
 use Rattle.seats.specs.declared.Seat.the-variants.{Here, NotPlanned}
 use Rattle.seats.specs.declared.Spot.{Spot}
 use Rattle.seats.specs.declared.Spot.the-variants.{Held, Missing}
@@ -35,6 +29,7 @@ use Rattle.seats.proofs.Laws.{Seated, Seen, seat-law, absent-law, Standing, sta
 use Rattle.seats.proofs.Halving.{held-law, missing-law}
 use Rattle.insert.specs.Insert.{placed}
 use Rattle.insert.proofs.Laws.{insert-parsed, insert-bounds}
+use Rattle.insert.proofs.Entry.{admitted-room}
 use Rattle.registry.specs.declared.Reply.{Reply}
 use Rattle.registry.specs.Effect.{Effect, firstFault, holding, replyFrom, memoryFrom, replyOn, memoryOn}
 use Rattle.registry.specs.Registry.{isPlanned, isRegistered, roomFault, registeredFault, requestOutcome, withRequest, registering}
@@ -83,6 +78,15 @@ module _ (f : Table → Effect) (m : List ℕ) (w : wellFormed m ≡ true) where
       }
 
 -- ---- registration
+
+-- the two ways of a request's own tests
+pub own-refused : (q : Request) (spot : Spot) → isDone (ownFault true q) ≡ false → seatFault q spot ≡ ownFault true q
+unfolding seatFault
+own-refused q spot d = simp d
+
+pub own-passed : (q : Request) (spot : Spot) → isDone (ownFault true q) ≡ true → seatFault q spot ≡ spotFault spot
+unfolding seatFault
+own-passed q spot d = simp d
 
 first-first : (a b c : Outcome) → firstFault a (firstFault b c) ≡ firstFault (firstFault a b) c
 first-first a b c = by-test (isDone a) refl
@@ -148,21 +152,8 @@ module _ (m : List ℕ) (o : Octets m) (w : wellFormed m ≡ true) (q : Request)
     unfolding roomFault
     room-place r =
         let z = seat-law m (q .ca) i first h o w e in
-        let t : Table = tableOf m in
-        let g : Good t = holds m o w .0 in
-        let s : Station = z .seat .s in
-        let f = z .seat .found in
-        let k : ℕ = t .capacity in
-        let B : List Share = map shareOf (f .before) in
-        let A : List Share = map shareOf (f .after) in
-        let split : map shareOf (t .stations) ≡ B ++ (shareOf s ∷ A) = ap (map shareOf) (f .split) ∙ shares-split (f .before) s (f .after) in
-        let sound : Sound k (B ++ (shareOf s ∷ A)) = subst (Sound k) split (good-sound t g) in
-        let a : admissionIn k (map shareOf (t .stations)) (shareOf s) ≡ Admitted =
-          admitted-is _ (ap (roomFault t) (sym (z .seat .is-station)) ∙ sym (room-law m o w (q .ca) i first h e) ∙ r) in
-        let a′ : admissionIn k (B ++ (shareOf s ∷ A)) (shareOf s) ≡ Admitted = ap (λ (l : List Share). admissionIn k l (shareOf s)) (sym split) ∙ a in
-        let place : total heldOf (B ++ (shareOf s ∷ A)) < k = admitted-has-place k B (shareOf s) A sound a′ in
-        let n : total heldOf (B ++ (shareOf s ∷ A)) ≡ total held (t .stations) = ap (total heldOf) (sym split) ∙ total-held (t .stations) in
-        omega arith
+        admitted-room (tableOf m) (q .ca) (z .seat .s) (holds m o w .0) (z .seat .found)
+        (admitted-is _ (ap (roomFault (tableOf m)) (sym (z .seat .is-station)) ∙ sym (room-law m o w (q .ca) i first h e) ∙ r))
 
     -- where the point goes
     goes : isDone (seatFault q (findAt m first h (q .ioa))) ≡ true

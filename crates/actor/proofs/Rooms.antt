@@ -12,15 +12,14 @@ use Rattle.limits.specs.Share.{heldOf, unmetOf, freeOf, admissionOf}
 use Rattle.limits.specs.declared.share.Share.{Share}
 use Rattle.limits.specs.declared.outcome.Outcome.{Outcome}
 use Rattle.octets.specs.Number.{two, Octets}
-use Rattle.octets.proofs.At.{At, at-fst, at-rest}
-use Rattle.table.specs.Table.{Station, Table, held, unmet, shareOf, eight, entries}
+use Rattle.table.specs.Table.{Station, Table, held, unmet, shareOf}
 use Rattle.table.specs.Memory.{tableOf, stationsAt, sumAt, unmetAt, wellFormed}
 use Rattle.table.specs.Change.{stationOf}
 use Rattle.table.proofs.Parse.{Good, Laid, holds}
 use Rattle.table.proofs.Shares.{total-held, total-unmet}
-use Rattle.table.proofs.Stations.{length-entries, eight-read, sum-unmet}
-use Rattle.table.proofs.Cut.{entries-at}
+use Rattle.table.proofs.Stations.{sum-unmet}
 use Rattle.wellformed.specs.Station.{shareAt}
+use Rattle.wellformed.proofs.Shares.{share-law}
 use Rattle.seats.specs.declared.Seat.the-variants.{Here, NotPlanned}
 use Rattle.seats.specs.Seats.{seatAt}
 use Rattle.seats.proofs.Laws.{Seated, Seen, seat-law}
@@ -28,29 +27,13 @@ use Rattle.registry.specs.Registry.{admissionOutcome, roomFault}
 use Rattle.actor.specs.Actor.{roomAt}
 
 module _ (m : List ℕ) (o : Octets m) (w : wellFormed m ≡ true) (ca i first h : ℕ) (e : seatAt m ca ≡ Here i first h) where
-  seen : Seen m ca i first h
-  seen = seat-law m ca i first h o w e
-
   -- The station's octets are its share.
   pub station-share : shareAt m (64 + 48 * two m 4 + 8 * i) ≡ shareOf (seat-law m ca i first h o w e .seat .s)
   station-share =
-      let z = seat-law m ca i first h o w e in
-      let d = z .seat in
-      let l = holds m o w .1 in
-      let f = d .found in
-      let s : Station = d .s in
-      let E : List ℕ = eight (s .ca) (s .reservation) (s .ceiling) (held s) in
-      let k : two m 4 ≡ tableOf m .capacity = l .is-k in
-      let a : At m (64 + 48 * tableOf m .capacity) (entries (f .before) ++ (E ++ entries (f .after))) =
-        subst (λ (x : List ℕ). At m (64 + 48 * tableOf m .capacity) x) (ap entries (f .split) ∙ entries-at (f .before) s (f .after)) (l .plan) in
-      let b : At m (64 + 48 * tableOf m .capacity + 8 * length (f .before)) (E ++ entries (f .after)) =
-        at-rest m (entries (f .before)) (E ++ entries (f .after)) (64 + 48 * tableOf m .capacity) (8 * length (f .before)) (length-entries (f .before)) a in
-      let x : i ≡ 0 + length (f .before) = d .index in
-      let p : 64 + 48 * tableOf m .capacity + 8 * length (f .before) ≡ 64 + 48 * two m 4 + 8 * i = omega arith in
-      let c : At m (64 + 48 * two m 4 + 8 * i) E =
-        subst (λ (n : ℕ). At m n E) p (at-fst m E (entries (f .after)) (64 + 48 * tableOf m .capacity + 8 * length (f .before)) b) in
-      let r = eight-read m (64 + 48 * two m 4 + 8 * i) (s .ca) (s .reservation) (s .ceiling) (held s) c in
-      λ j. record { held = r .is-h j; reservation = r .is-r j; ceiling = r .is-c j }
+      let d = seat-law m ca i first h o w e .seat in
+      let x : i ≡ 0 + length (d .found .before) = d .index in
+      let n : i ≡ length (d .found .before) = omega arith in
+      ap (λ (k : ℕ). shareAt m (64 + 48 * two m 4 + 8 * k)) n ∙ share-law m ca (d .s) (d .found)
 
   -- Free and unmet are the table's.
   pub free-is : two m 4 - two m 8 ≡ tableOf m .capacity - total held (tableOf m .stations)

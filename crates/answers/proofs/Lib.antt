@@ -2,3 +2,4 @@ pub mod Common
 pub mod Values
 pub mod Quiet
 pub mod Cases
+pub mod Ends

@@ -1,3 +1,4 @@
 pub mod Said
 pub mod System
 pub mod Process
+pub mod Start

@@ -1,1 +1,4 @@
 pub mod Chains
+pub mod Follow
+pub mod Types
+pub mod Meaning

@@ -1,0 +1,101 @@
+-- Each way out is one law of shares. Assumes nothing.
+use borrow.Author.Tests.{not-true, not-false}
+use mathlib.Core.Path.{_≡_, sym, ap, ap₂, _∙_}
+use mathlib.Core.Bool.{true, false}
+use Prim.Native.Nat.{ℕ, _+_, _*_, _≤_, _<_}
+use denote.Ref.{now}
+use Rattle.limits.specs.Outcome.{isDone}
+use Rattle.octets.specs.Number.{two, Octets}
+use Rattle.model.specs.Request.{ownFault, pointOf}
+use Rattle.table.specs.Memory.{wellFormed, parse}
+use Rattle.table.proofs.Parse.{passed}
+use Rattle.seats.specs.Seats.{seatAt}
+use Rattle.seats.specs.Find.{findAt}
+use Rattle.seats.specs.declared.Seat.the-variants.{Here, NotPlanned}
+use Rattle.seats.specs.declared.Spot.the-variants.{Held, Missing}
+use Rattle.seats.proofs.Laws.{seat-law}
+use Rattle.actor.proofs.Unregister.{share-no-table, share-absent, share-found}
+use borrow.Author.Needs.{needs}
+use native.Mathlib.Omega.{arith}
+use Rattle.actor.proofs.station_share.Statement.{statement}
+use Rattle.actor.proofs.station_share.Tie as tie
+
+well-formed-requires : tie.Need-well-formed-requires
+well-formed-requires c κs = search needs
+
+no-share-requires : tie.Need-no-share-requires
+no-share-requires c κs = search needs
+
+returns : tie.Need-returns
+returns c =
+    let a = c .before .before .before .before .args in
+    let m = now (a .table) in
+    let w : wellFormed m ≡ false = sym (c .before .before .well-formed .ensures) ∙ not-true _ (c .before .if1 .taken) in
+    c .no-share .ensures ∙ share-no-table m (a .ca) w
+
+seat-at-requires : tie.Need-seat-at-requires
+seat-at-requires c κs =
+    let a = c .before .before .before .args in
+    let m = now (a .table) in
+    let w : wellFormed m ≡ true = sym (c .before .well-formed .ensures) ∙ not-false _ (c .if1 .left) in
+    let top = passed m w .top in
+    let high = top .s-high in
+    let room = top .room in
+    (omega arith, omega arith)
+
+enum-known-i : tie.Need-enum-known-i
+enum-known-i c = search needs
+
+enum-told : tie.Need-enum-told
+enum-told c = search needs
+
+no-share-requires-2 : tie.Need-no-share-requires-2
+no-share-requires-2 c κs = search needs
+
+returns-2 : tie.Need-returns-2
+returns-2 c =
+    let a = c .before .before .before .before .before .before .before .args in
+    let m = now (a .table) in
+    let w : wellFormed m ≡ true = sym (c .before .before .before .before .before .well-formed .ensures) ∙ not-false _ (c .before .before .before .before .if1 .left) in
+    c .no-share2 .ensures ∙ share-absent m w (a .ca) (sym (c .before .before .before .seat-at .ensures) ∙ c .before .enum-told .given .1)
+
+share-here-requires : tie.Need-share-here-requires
+share-here-requires c κs =
+    let a = c .before .before .before .before .before .before .before .args in
+    let m = now (a .table) in
+    let w : wellFormed m ≡ true = sym (c .before .before .before .before .before .well-formed .ensures) ∙ not-false _ (c .before .before .before .before .if1 .left) in
+    let o : Octets m = λ k. omega (arith, c .before .before .before .before .before .before .shared-slice-known .given k) in
+    let g = c .before .i .given in
+    let s : seatAt m (a .ca) ≡ Here (g .0 .0) (g .0 .1 .0) (g .0 .1 .1 .0) = sym (c .before .before .before .seat-at .ensures) ∙ g .1 in
+    let z = seat-law m (a .ca) (g .0 .0) (g .0 .1 .0) (g .0 .1 .1 .0) o w s in
+    let i = z .stations in
+    let q = passed m w in
+    let few = q .few in
+    let high = q .top .s-high in
+    let room = q .top .room in
+    (room, i, high, few)
+
+returns-3 : tie.Need-returns-3
+returns-3 c =
+    let a = c .before .before .before .before .before .before .before .before .args in
+    let m = now (a .table) in
+    let w : wellFormed m ≡ true = sym (c .before .before .before .before .before .before .well-formed .ensures) ∙ not-false _ (c .before .before .before .before .before .if1 .left) in
+    let o : Octets m = λ k. omega (arith, c .before .before .before .before .before .before .before .shared-slice-known .given k) in
+    let g = c .before .before .i .given in
+    let s : seatAt m (a .ca) ≡ Here (g .0 .0) (g .0 .1 .0) (g .0 .1 .1 .0) = sym (c .before .before .before .before .seat-at .ensures) ∙ g .1 in
+    c .share-here .ensures ∙ share-found m w (a .ca) o (g .0 .0) (g .0 .1 .0) (g .0 .1 .1 .0) s
+
+pub station-share-spec : {M : Type 1} → statement M
+station-share-spec =
+    tie.close
+    (tie.spec
+    well-formed-requires
+    no-share-requires
+    returns
+    seat-at-requires
+    enum-known-i
+    enum-told
+    no-share-requires-2
+    returns-2
+    share-here-requires
+    returns-3)

@@ -1,0 +1,68 @@
+// Counters set to 0 in a table's memory. From `reset_counters` of `system_command_handler.rs`.
+use asdu::types_id::M_IT_NA_1;
+use asdu::types_id::M_IT_TB_1;
+use report::Selection;
+ghost use mathlib.Core.Path.{_≡_};
+ghost use Prim.Native.Nat.{_+_, _*_, _≤_};
+ghost use lib.ListN.{length};
+ghost use Rattle.model.specs.Place.{isCounter, pointAt};
+ghost use Rattle.report.specs.Selection.{selects};
+ghost use Rattle.resets.specs.Resets.{takesAt, resetPlace, resetPlaces};
+
+// Is a type a counter's: integrated totals, without or with a time?
+fn is_counter(kind: u8) -> bool
+    ensures { λ r. ⌜ r ≡ isCounter kind ⌝ }
+{
+    if kind == M_IT_NA_1 {
+        return true;
+    }
+    kind == M_IT_TB_1
+}
+
+// Does the selection take the point of the place at `at`?
+fn selects_at(m: &[u8], at: usize, selection: Selection) -> bool
+    requires { ⌜ at + 48 ≤ length (now m) ⌝ }
+    ensures { λ r. ⌜ r ≡ selects selection (pointAt (now (m .entry)) at) ⌝ }
+{
+    match selection {
+        Selection::Every => true,
+        Selection::Group(g) => octets::two_at(m, at + 6) == octets::wide(g),
+        Selection::CounterGroup(g) => m[at + 8] == g,
+    }
+}
+
+// Is there a counter at the place, and does the selection take it?
+fn takes_at(m: &[u8], at: usize, selection: Selection) -> bool
+    requires { ⌜ at + 48 ≤ length (now m) ⌝ }
+    ensures { λ r. ⌜ r ≡ takesAt selection (now (m .entry)) at ⌝ }
+{
+    if !is_counter(m[at]) {
+        return false;
+    }
+    selects_at(m, at, selection)
+}
+
+// Sets the reading of the place at `at` to 0, the first four octets of its value, where it is a counter that the selection takes; the rest stays.
+fn reset_place(m: &mut [u8], at: usize, selection: Selection)
+    requires { ⌜ at + 48 ≤ length (now m) ⌝ }
+    ensures { λ _. ⌜ now (m .exit) ≡ resetPlace selection (now (m .entry)) at ⌝ }
+{
+    if takes_at(m, at, selection) {
+        let reading = [0u8; 4];
+        octets::copy_in(&reading, m, at + 10);
+    }
+}
+
+// Sets the selected counters among the n places from `first` to 0.
+pub fn reset(m: &mut [u8], first: usize, n: usize, selection: Selection)
+    requires { ⌜ first + 48 * n ≤ length (now m) ⌝ }
+    ensures { λ _. ⌜ now (m .exit) ≡ resetPlaces selection (now (m .entry)) first n ⌝ }
+{
+    let mut at = first;
+    let mut left = n;
+    while 0 < left {
+        reset_place(m, at, selection);
+        at += 48;
+        left -= 1;
+    }
+}

@@ -1,0 +1,67 @@
+-- What is left of the stations gives the same address at each turn.
+use borrow.Author.Needs.{needs}
+use native.Mathlib.Omega.{arith}
+use mathlib.Core.Path.{_≡_, refl, sym, _∙_}
+use Prim.Native.Nat.{_+_, _*_, _≤_}
+use lib.ListN.{length}
+use Rattle.starting.specs.Starting.{commonAddressAt}
+use Rattle.starting.proofs.Laws.{address-here, address-on, address-end}
+use Rattle.starting.proofs.station_common_address.Statement.{statement}
+use Rattle.starting.proofs.station_common_address.Tie as tie
+
+abbrev Inv-loop : tie.InvT-loop
+Inv-loop m at n station₀ left₀ station left = (commonAddressAt m at n ≡ commonAddressAt m station left) × (station + 8 * left ≤ length m)
+
+abbrev μ-loop : tie.MeasureT-loop
+μ-loop m at n station₀ left₀ station left = left
+
+loop-holds : tie.Need-loop-holds Inv-loop μ-loop
+loop-holds c = (refl, omega arith)
+
+add-two-at : tie.Need-add-two-at Inv-loop μ-loop
+add-two-at c = search needs
+
+two-at-requires : tie.Need-two-at-requires Inv-loop μ-loop
+two-at-requires c κs = search needs
+
+two-at-requires-2 : tie.Need-two-at-requires-2 Inv-loop μ-loop
+two-at-requires-2 c κs = search needs
+
+returns : tie.Need-returns Inv-loop μ-loop
+returns c =
+    let l = c .before .before .before .before .loop in
+    (c .two-at2 .ensures .0 ∙ sym (l .inv .0 ∙ address-here _ _ _ (omega arith) (omega arith)), omega arith)
+
+add-station : tie.Need-add-station Inv-loop μ-loop
+add-station c = search needs
+
+sub-left : tie.Need-sub-left Inv-loop μ-loop
+sub-left c = search needs
+
+loop-less : tie.Need-loop-less Inv-loop μ-loop
+loop-less c = search needs
+
+loop-again : tie.Need-loop-again Inv-loop μ-loop
+loop-again c =
+    let l = c .before .before .before .loop in
+    (l .inv .0 ∙ address-on _ _ _ (omega arith) (omega arith), omega arith)
+
+returns-2 : tie.Need-returns-2 Inv-loop μ-loop
+returns-2 c = (sym (c .before .loop .inv .0 ∙ address-end _ _ _ (omega arith)), omega arith)
+
+pub station-common-address-spec : {M : Type 1} → statement M
+station-common-address-spec =
+    tie.close
+    (tie.spec
+    Inv-loop
+    μ-loop
+    loop-holds
+    add-two-at
+    two-at-requires
+    two-at-requires-2
+    returns
+    add-station
+    sub-left
+    loop-less
+    loop-again
+    returns-2)
