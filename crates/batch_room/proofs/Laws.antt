@@ -1,16 +1,16 @@
 -- The turns of a batch in memory are the turns of `roomTests`: what the stations hold, what is free and what is unmet go along. Assumes nothing.
-use mathlib.Core.Path.{_≡_, refl, sym, ap, _∙_, subst}
-use mathlib.Core.List.{List, [], _∷_, _++_, map}
+use mathlib.Core.Path.{_≡_, refl, sym, ap, _∙_}
+use mathlib.Core.List.{List, [], _∷_, map}
 use mathlib.Core.Bool.{Bool, true, false}
 use mathlib.Core.Option.{Option, none, some}
 use Prim.Native.Nat.{ℕ, zero, suc, _+_, _*_, _-_, _≤_, _<_}
 use native.Mathlib.Omega.{arith}
 use lib.ListN.{length, getD, set, replicate, length-set, length-replicate}
-use lib.Dec.{eqb, ltb}
-use borrow.Author.Tests.{lt-ltb, eqb-true, eqb-false}
+use lib.Dec.{eqb}
+use borrow.Author.Tests.{lt-ltb}
 use Rattle.limits.specs.Test.{pick, total}
 use Rattle.limits.specs.Outcome.{isDone}
-use Rattle.limits.specs.Share.{heldOf, unmetOf, takenIn, admissionOf, admissionIn}
+use Rattle.limits.specs.Share.{heldOf, unmetOf, takenIn, admissionOf}
 use Rattle.limits.specs.declared.share.Share.{Share}
 use Rattle.limits.specs.declared.outcome.Outcome.{Outcome}
 use Rattle.limits.specs.declared.outcome.Outcome.the-variants.{Done, StationNotPlanned}
@@ -19,13 +19,13 @@ use Rattle.limits.proofs.Shares.{unmet-is, admitted-only}
 use Rattle.octets.specs.Number.{two}
 use Rattle.model.specs.declared.Point.{Point}
 use Rattle.model.specs.declared.Request.{Request}
-use Rattle.model.specs.Request.{pointOf, requestAt, requestsAt}
+use Rattle.model.specs.Request.{pointOf, requestsAt}
 use Rattle.table.specs.Table.{Station, Table, held, unmet, shareOf}
-use Rattle.table.specs.Memory.{stationsAt, tableOf, sumAt, heldAt, unmetAt}
+use Rattle.table.specs.Memory.{tableOf, sumAt, heldAt, unmetAt}
 use Rattle.table.specs.Change.{stationOf, inStation, withPoints, changed, insertIn, added}
 use Rattle.table.proofs.Stations.{sum-held, sum-unmet}
 use Rattle.table.proofs.Shares.{total-held, total-unmet}
-use Rattle.table.proofs.Change.{Found, station-found, stations-split, insert-length}
+use Rattle.table.proofs.Change.{station-found, stations-split, insert-length}
 use Rattle.table.proofs.Cut.{total-at}
 use Rattle.seats.specs.declared.Seat.{Seat}
 use Rattle.seats.specs.declared.Seat.the-variants.{Here, NotPlanned}
@@ -33,9 +33,8 @@ use Rattle.seats.specs.Seats.{seatIn, seatAt}
 use Rattle.registry.specs.declared.Reply.{Reply}
 use Rattle.registry.specs.Effect.{Effect, refused}
 use Rattle.registry.specs.Registry.{admissionOutcome, roomFault, withRequest, roomTests}
-use Rattle.registry.specs.History.{Holding, holdingOf}
+use Rattle.registry.specs.History.{holdingOf}
 use Rattle.registry.proofs.Requests.{admitted-is}
-use Rattle.records.specs.Records.{requestsIn}
 use Rattle.records.proofs.Laws.{requests-on, requests-end}
 use Rattle.batch_room.specs.declared.Standing.{Standing}
 use Rattle.batch_room.specs.Room.{roomReply, shareWith, standingOf, stationAt, standingAt, takenAt, roomRun}

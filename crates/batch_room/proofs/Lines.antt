@@ -2,21 +2,20 @@
 use mathlib.Core.Path.{_≡_, refl, sym, ap, _∙_, subst}
 use mathlib.Core.List.{List, [], _∷_, map}
 use mathlib.Core.Bool.{Bool, true, false}
-use mathlib.Core.Option.{Option, none, some}
-use Prim.Native.Nat.{ℕ, zero, suc, _+_, _*_, _-_, _≤_, _<_}
+use mathlib.Core.Option.{none, some}
+use Prim.Native.Nat.{ℕ, zero, suc, _+_, _*_, _≤_, _<_}
 use native.Mathlib.Omega.{arith}
-use lib.ListN.{length, getD, set, length-set}
+use lib.ListN.{length, getD, set}
 use lib.Seq.{getD-set-same, getD-set-other}
 use lib.Dec.{eqb}
 use borrow.Author.Tests.{eqb-true, eqb-false, eq-eqb, ne-eqb}
 use Rattle.limits.specs.Test.{pick}
 use Rattle.octets.specs.Number.{two}
 use Rattle.model.specs.declared.Point.{Point}
-use Rattle.table.specs.Table.{Station, Table, held, shareOf}
-use Rattle.table.specs.Memory.{pointsAt, stationsAt, tableOf}
+use Rattle.table.specs.Table.{Station, held, shareOf}
+use Rattle.table.specs.Memory.{pointsAt, stationsAt}
 use Rattle.table.specs.Change.{stationOf, inStation, withPoints}
 use Rattle.table.proofs.Points.{length-pointsAt}
-use Rattle.seats.specs.declared.Seat.{Seat}
 use Rattle.seats.specs.declared.Seat.the-variants.{Here, NotPlanned}
 use Rattle.seats.specs.Seats.{seatIn}
 use Rattle.registry.specs.History.{Holding, holdingOf}

@@ -8,7 +8,7 @@ use lib.ListN.{length, getD, set}
 use lib.Seq.{getD-set-same, getD-set-other}
 use lib.Dec.{eqb}
 use borrow.Author.Tests.{eqb-true, eqb-false}
-use Rattle.limits.specs.Test.{_&_, pick}
+use Rattle.limits.specs.Test.{pick}
 use Rattle.limits.proofs.Tests.{both}
 use Rattle.octets.specs.Number.{two, four}
 use Rattle.records.specs.Records.{addressAt, standsBefore}

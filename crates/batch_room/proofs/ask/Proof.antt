@@ -1,5 +1,6 @@
+-- The answer and the two numbers, each from the function that makes it. Assumes nothing.
 use borrow.Author.Needs.{needs}
-use mathlib.Core.Path.{_≡_, refl, sym, ap, ap₂, _∙_}
+use mathlib.Core.Path.{ap, ap₂, _∙_}
 use Prim.Native.Nat.{_-_}
 use Rattle.registry.specs.Registry.{admissionOutcome}
 use Rattle.limits.specs.Share.{unmetOf}

@@ -1,3 +1,4 @@
+-- The flag of the address that the record's octets say. Assumes nothing.
 use borrow.Author.Needs.{needs}
 use mathlib.Core.Path.{ap₂, _∙_}
 use Rattle.batch_tests.specs.Tests.{flagOf, flagAt}

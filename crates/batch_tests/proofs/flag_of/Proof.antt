@@ -1,3 +1,4 @@
+-- The flag is the definition's, and below their number. Assumes nothing.
 use borrow.Author.Needs.{needs}
 use native.Mathlib.Omega.{arith}
 use mathlib.Core.Path.{refl}

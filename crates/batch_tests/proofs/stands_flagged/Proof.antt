@@ -1,3 +1,4 @@
+-- Where the flag is not set, the caller knows that the address does not stand there. Assumes nothing.
 use borrow.Author.Needs.{needs}
 use mathlib.Core.Path.{sym}
 use Rattle.batch_tests.proofs.stands_flagged.Statement.{statement}

@@ -3,15 +3,14 @@
 use borrow.Author.Needs.{needs}
 use native.Mathlib.Omega.{arith}
 use borrow.Author.Tests.{not-true, not-false}
-use mathlib.Core.Path.{_≡_, refl, sym, ap, _∙_}
+use mathlib.Core.Path.{_≡_, sym, ap, _∙_}
 use mathlib.Core.List.{[]}
-use Prim.Native.Nat.{ℕ, _+_, _*_, _-_, _≤_, _<_}
+use Prim.Native.Nat.{_*_, _-_, _≤_, _<_}
 use lib.ListN.{length, length-set}
 use Rattle.limits.specs.Outcome.{isDone}
 use Rattle.limits.specs.declared.outcome.Outcome.{Outcome}
 use Rattle.model.specs.Request.{requestsAt}
 use Rattle.table.specs.Memory.{tableOf}
-use Rattle.registry.specs.declared.Reply.{Reply}
 use Rattle.registry.specs.Registry.{ownTests}
 use Rattle.records.specs.Records.{requestsIn, earlierAt}
 use Rattle.batch_tests.proofs.Flags.{Marked, marked-on, flag-says}
