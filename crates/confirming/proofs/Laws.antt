@@ -7,14 +7,24 @@ use Prim.Native.Nat.{ℕ, _+_, _-_, _≤_, _<_}
 use native.Mathlib.Omega.{arith}
 use lib.ListN.{length, take, drop, length-append, length-take, length-drop, take-append-drop}
 use lib.Seq.{drop-drop, length-take-le}
-use borrow.Author.Tests.{le-leb, lt-leb}
+use lib.Dec.{ltb}
+use borrow.Author.Tests.{le-leb, lt-leb, ltb-true, ltb-false}
+use Rattle.limits.specs.Test.{pick}
+use Rattle.limits.specs.Size.{standardLimit}
+use Rattle.asdu.specs.declared.command.Command.{Command}
+use Rattle.asdu.specs.Confirmation.{confirmation}
+use Rattle.asdu.proofs.Lengths.{length-confirmation}
+use Rattle.report.specs.declared.Selection.{Selection}
+use Rattle.output.specs.declared.data.Written.{Written}
+use Rattle.output.specs.declared.data.Written.the-variants.{Octets, Short}
+use Rattle.output.specs.Data.{dataOf, wrote, written, tooShort}
 use Rattle.limits.specs.declared.outcome.Outcome.the-variants.{AnswerShort}
 use Rattle.octets.specs.Over.{over}
 use Rattle.octets.proofs.Laws.{over-at}
 use Rattle.answers.specs.declared.Answered.{Answered}
 use Rattle.answers.specs.Said.{fronted}
 use Rattle.answers.proofs.Ends.{front-is}
-use Rattle.confirming.specs.Sending.{nothing, given, sent, left}
+use Rattle.confirming.specs.Sending.{nothing, given, sent, left, whole}
 
 module _ (X m : List ℕ) where
   -- It does not fit.
@@ -57,3 +67,34 @@ between m C D T c d ec ed h =
       ap (λ (x : List ℕ). over x 0 (C ++ (D ++ T))) (split ∙ ap (λ (x : List ℕ). A ++ x) (sym (append-assoc B E R)) ∙ sym (append-assoc A (B ++ E) R))
       ∙ over-at [] (A ++ (B ++ E)) R (C ++ (D ++ T)) 0 refl w in
     s3 ∙ append-assoc C D (T ++ R) ∙ ap (λ (x : List ℕ). C ++ x) (sym (append-assoc D T R)) ∙ sym (append-assoc C (D ++ T) R) ∙ sym s4
+
+-- ---- what `put_data` answers
+
+pub data-short : (out : List ℕ) (before after : ℕ) (xs : List ℕ) → wrote (length out) before after xs ≡ Short
+    → (length out < before + (length xs + after)) × (out ≡ written out before after xs)
+unfolding wrote written tooShort
+data-short out before after xs e = by-test (ltb (length out) (before + (length xs + after))) refl e
+  where
+    by-test : (b : Bool) → ltb (length out) (before + (length xs + after)) ≡ b → pick b Short (Octets (length xs)) ≡ Short
+        → (length out < before + (length xs + after)) × (out ≡ pick (ltb (length out) (before + (length xs + after))) out (over out before xs))
+    by-test true t e′ = (ltb-true _ _ t, sym (simp t))
+    by-test false t e′ = let z : _≡_ {A = ℕ} 0 1 = cc in absurd (omega arith)
+
+pub data-full : (out : List ℕ) (before after k : ℕ) (xs : List ℕ) → wrote (length out) before after xs ≡ Octets k
+    → (k ≡ length xs) × (before + (length xs + after) ≤ length out) × (written out before after xs ≡ over out before xs)
+unfolding wrote written tooShort
+data-full out before after k xs e = by-test (ltb (length out) (before + (length xs + after))) refl e
+  where
+    by-test : (b : Bool) → ltb (length out) (before + (length xs + after)) ≡ b → pick b Short (Octets (length xs)) ≡ Octets k
+        → (k ≡ length xs) × (before + (length xs + after) ≤ length out) × (pick (ltb (length out) (before + (length xs + after))) out (over out before xs) ≡ over out before xs)
+    by-test true t e′ = let z : _≡_ {A = ℕ} 0 1 = cc in absurd (omega arith)
+    by-test false t e′ = (cc, ltb-false _ _ t, simp t)
+
+pub length-whole : (types : List ℕ) (cause : ℕ) (s : Selection) (every : Bool) (table : List ℕ) (base n : ℕ) (c : Command) (m : List ℕ) → 9 + c .element ≤ length m
+    → length (whole types cause s every table base n c m) ≡ 9 + c .element + (length (dataOf standardLimit types cause (c .ca) s every table base n) + (9 + c .element))
+unfolding whole
+length-whole types cause s every table base n c m h =
+    let D : List ℕ = dataOf standardLimit types cause (c .ca) s every table base n in
+    let a = length-confirmation c m 7 false h in
+    let b = length-confirmation c m 10 false h in
+    length-append (confirmation c m 7 false) (D ++ confirmation c m 10 false) ∙ ap₂ (λ (x y : ℕ). x + y) a (length-append D (confirmation c m 10 false) ∙ ap (λ (x : ℕ). length D + x) b)
