@@ -45,8 +45,8 @@ module _ (f : Table → Said) (l : Lent) (w : wellFormed (l .table) ≡ true) wh
   is-parsed : parse (l .table) ≡ some (tableOf (l .table))
   is-parsed = parse-some (l .table) w
 
-  -- a number other than 0, of a table
-  ends-nothing : (o : Outcome) → outcomeWith (f (tableOf (l .table))) l ≡ o → isDone o ≡ false → Ends f l (nothing o) l
+  -- A number other than 0, of a table.
+  pub ends-nothing : (o : Outcome) → outcomeWith (f (tableOf (l .table))) l ≡ o → isDone o ≡ false → Ends f l (nothing o) l
   unfolding answeredFrom lentFrom
   ends-nothing o e d =
       let d′ : isDone (outcomeWith (f (tableOf (l .table))) l) ≡ false = ap isDone e ∙ d in

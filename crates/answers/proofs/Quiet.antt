@@ -143,7 +143,8 @@ update-ok t u p g w e = of-station (stationOf (u .ca) (t .stations)) refl e
     of-station none f e′ = let z : _≡_ {A = ℕ} 0 1 = cc in absurd (omega arith)
     of-station (some s) f e′ = of-point s f (pointIn (u .ioa) (s .points)) refl e′
 
-update-still : (t : Table) (u : Update) → length (u .value) ≡ 12 → Still t (tableWith t u (updateOf t u))
+-- One update leaves a table still.
+pub update-still : (t : Table) (u : Update) → length (u .value) ≡ 12 → Still t (tableWith t u (updateOf t u))
 unfolding tableWith changed
 update-still t u w = of-update (updateOf t u) refl
   where

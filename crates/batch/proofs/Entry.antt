@@ -1,8 +1,8 @@
 -- The entry's ways out: each gives the reply and leaves the memory that the effect of a batch says. Assumes nothing.
-use mathlib.Core.Path.{_≡_, refl, sym, ap, _∙_}
-use mathlib.Core.List.{List, [], _∷_}
-use mathlib.Core.Bool.{Bool, true, false}
-use mathlib.Core.Option.{Option, none, some}
+use mathlib.Core.Path.{_≡_, sym, ap, _∙_}
+use mathlib.Core.List.{List, []}
+use mathlib.Core.Bool.{true, false}
+use mathlib.Core.Option.{none, some}
 use Prim.Native.Nat.{ℕ}
 use Rattle.limits.specs.Test.{pick}
 use Rattle.limits.specs.Outcome.{isDone}
@@ -82,3 +82,9 @@ module _ (m : List ℕ) (w : wellFormed m ≡ true) (qs : List Request) where
     stored-all d later s =
         let n : isDone (roomTests (tableOf m) 0 qs .outcome) ≡ true = ap isDone (sym room-outcome) ∙ d in
         (room-reply, s ∙ sym (room-memory ∙ simp n))
+
+-- The reply and the memory at exit are determined: two that meet the entry's contract are equal.
+pub one-answer : (m : List ℕ) (qs : List Request) (x y : Reply) (m′ m″ : List ℕ)
+    → (x ≡ replyOn (registeringAll qs) m) × (m′ ≡ memoryOn (registeringAll qs) m) → (y ≡ replyOn (registeringAll qs) m) × (m″ ≡ memoryOn (registeringAll qs) m)
+    → (x ≡ y) × (m′ ≡ m″)
+one-answer m qs x y m′ m″ a b = (a .0 ∙ sym (b .0), a .1 ∙ sym (b .1))

@@ -1,24 +1,22 @@
 -- Storing a batch: a record without a fault is put in, and with every record so the memory holds the table that the share rule left. Assumes nothing.
 use mathlib.Core.Path.{_≡_, refl, sym, ap, _∙_, subst}
-use mathlib.Core.List.{List, [], _∷_, _++_, map}
+use mathlib.Core.List.{List, [], _∷_, _++_}
 use mathlib.Core.Bool.{Bool, true, false}
-use mathlib.Core.Option.{Option, none, some}
+use mathlib.Core.Option.{Option}
 use Prim.Native.Nat.{ℕ, _+_, _*_, _-_, _/_, _≤_, _<_}
 use native.Mathlib.Omega.{arith}
 use lib.ListN.{length, drop}
 use lib.Seq.{drop-at}
 use Rattle.limits.specs.Test.{pick}
 use Rattle.limits.specs.Outcome.{isDone}
-use Rattle.limits.specs.Share.{admissionIn}
 use Rattle.limits.specs.declared.outcome.Outcome.{Outcome}
 use Rattle.limits.specs.declared.outcome.Outcome.the-variants.{Done, AlreadyRegistered}
 use Rattle.limits.proofs.Outcomes.{not-both, first-done, done-is}
 use Rattle.octets.specs.Number.{two, Octets}
 use Rattle.model.specs.declared.Request.{Request}
-use Rattle.model.specs.Place.{pointOk}
 use Rattle.model.specs.Request.{ownFault, pointOf, requestAt, requestsAt}
 use Rattle.model.proofs.Requests.{faultless}
-use Rattle.table.specs.Table.{Station, Table, shareOf, image}
+use Rattle.table.specs.Table.{Station, Table, image}
 use Rattle.table.specs.Memory.{wellFormed, tableOf, parse}
 use Rattle.table.specs.Change.{stationOf, known}
 use Rattle.table.proofs.Parse.{Good, is-good, passed, parsed, printed, holds, parse-complete}
@@ -28,17 +26,16 @@ use Rattle.seats.specs.Seats.{seatAt}
 use Rattle.seats.specs.Find.{findAt}
 use Rattle.seats.proofs.Laws.{seat-law, absent-law}
 use Rattle.seats.proofs.Halving.{held-law}
-use Rattle.insert.specs.Insert.{placed}
 use Rattle.insert.proofs.Entry.{PutIn, insert-law}
 use Rattle.insert.proofs.Entry as insert
 use Rattle.registry.specs.Effect.{Effect, holding}
 use Rattle.registry.specs.Registry.{isPlanned, isRegistered, roomFault, registeredFault, requestOutcome, withRequest, registering, ownTests, roomTests}
-use Rattle.registry.specs.History.{Twelve, AllTwelve}
+use Rattle.registry.specs.History.{Twelve}
 use Rattle.registry.proofs.Requests.{described, Accepted, accepted-good, unregistered-is, admitted-is}
 use Rattle.registry.proofs.Batches.{Passes, Ready, AllApart, own-tests-ready, ready-after, passes-accepted}
-use Rattle.registry.proofs.Batches.Ready.{ready-none, ready-more}
+use Rattle.registry.proofs.Batches.Ready.{ready-more}
 use Rattle.records.specs.Records.{requestsIn}
-use Rattle.records.proofs.Laws.{requests-on, requests-end, all-twelve}
+use Rattle.records.proofs.Laws.{requests-on, requests-end}
 
 -- ---- one record
 
@@ -79,9 +76,9 @@ module _ (m : List ℕ) (o : Octets m) (w : wellFormed m ≡ true) (q : Request)
     not-held at f =
         let z = seat-law m (q .ca) i first h o w s in
         let k : known (q .ioa) (z .seat .s .points) ≡ true =
-          ap (known (q .ioa)) (sym (z .points)) ∙ held-law m first h (q .ioa) at (rw (z .points) (z .rises)) f .is-known in
+        ap (known (q .ioa)) (sym (z .points)) ∙ held-law m first h (q .ioa) at (rw (z .points) (z .rises)) f .is-known in
         let n : known (q .ioa) (z .seat .s .points) ≡ false =
-          ap (isRegistered (q .ioa)) (sym (z .seat .is-station)) ∙ fault-less (tableOf m) q e .new in
+        ap (isRegistered (q .ioa)) (sym (z .seat .is-station)) ∙ fault-less (tableOf m) q e .new in
         not-both (sym n ∙ k)
 
     -- It is put in: what the code asks of the numbers, and the memory with it.
@@ -118,6 +115,7 @@ room-first t i q qs e = by-test (isDone (roomFault t (stationOf (q .ca) (t .stat
   where
     refusal : Effect
     refusal = record { outcome = roomFault t (stationOf (q .ca) (t .stations)); place = i; after = t }
+
     by-test : (b : Bool) → isDone (roomFault t (stationOf (q .ca) (t .stations))) ≡ b → pick b (roomTests (withRequest t q) (i + 1) qs) refusal .outcome ≡ Done
         → (roomFault t (stationOf (q .ca) (t .stations)) ≡ Done) × (pick b (roomTests (withRequest t q) (i + 1) qs) refusal ≡ roomTests (withRequest t q) (i + 1) qs)
     by-test true d f = (done-is _ d, refl)

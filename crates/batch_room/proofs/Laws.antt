@@ -1,16 +1,16 @@
 -- The turns of a batch in memory are the turns of `roomTests`: what the stations hold, what is free and what is unmet go along. Assumes nothing.
-use mathlib.Core.Path.{_≡_, refl, sym, ap, _∙_, subst}
-use mathlib.Core.List.{List, [], _∷_, _++_, map}
+use mathlib.Core.Path.{_≡_, refl, sym, ap, _∙_}
+use mathlib.Core.List.{List, [], _∷_, map}
 use mathlib.Core.Bool.{Bool, true, false}
 use mathlib.Core.Option.{Option, none, some}
 use Prim.Native.Nat.{ℕ, zero, suc, _+_, _*_, _-_, _≤_, _<_}
 use native.Mathlib.Omega.{arith}
 use lib.ListN.{length, getD, set, replicate, length-set, length-replicate}
-use lib.Dec.{eqb, ltb}
-use borrow.Author.Tests.{lt-ltb, eqb-true, eqb-false}
+use lib.Dec.{eqb}
+use borrow.Author.Tests.{lt-ltb}
 use Rattle.limits.specs.Test.{pick, total}
 use Rattle.limits.specs.Outcome.{isDone}
-use Rattle.limits.specs.Share.{heldOf, unmetOf, takenIn, admissionOf, admissionIn}
+use Rattle.limits.specs.Share.{heldOf, unmetOf, takenIn, admissionOf}
 use Rattle.limits.specs.declared.share.Share.{Share}
 use Rattle.limits.specs.declared.outcome.Outcome.{Outcome}
 use Rattle.limits.specs.declared.outcome.Outcome.the-variants.{Done, StationNotPlanned}
@@ -19,13 +19,13 @@ use Rattle.limits.proofs.Shares.{unmet-is, admitted-only}
 use Rattle.octets.specs.Number.{two}
 use Rattle.model.specs.declared.Point.{Point}
 use Rattle.model.specs.declared.Request.{Request}
-use Rattle.model.specs.Request.{pointOf, requestAt, requestsAt}
+use Rattle.model.specs.Request.{pointOf, requestsAt}
 use Rattle.table.specs.Table.{Station, Table, held, unmet, shareOf}
-use Rattle.table.specs.Memory.{stationsAt, tableOf, sumAt, heldAt, unmetAt}
+use Rattle.table.specs.Memory.{tableOf, sumAt, heldAt, unmetAt}
 use Rattle.table.specs.Change.{stationOf, inStation, withPoints, changed, insertIn, added}
 use Rattle.table.proofs.Stations.{sum-held, sum-unmet}
 use Rattle.table.proofs.Shares.{total-held, total-unmet}
-use Rattle.table.proofs.Change.{Found, station-found, stations-split, insert-length}
+use Rattle.table.proofs.Change.{station-found, stations-split, insert-length}
 use Rattle.table.proofs.Cut.{total-at}
 use Rattle.seats.specs.declared.Seat.{Seat}
 use Rattle.seats.specs.declared.Seat.the-variants.{Here, NotPlanned}
@@ -33,9 +33,8 @@ use Rattle.seats.specs.Seats.{seatIn, seatAt}
 use Rattle.registry.specs.declared.Reply.{Reply}
 use Rattle.registry.specs.Effect.{Effect, refused}
 use Rattle.registry.specs.Registry.{admissionOutcome, roomFault, withRequest, roomTests}
-use Rattle.registry.specs.History.{Holding, holdingOf}
+use Rattle.registry.specs.History.{holdingOf}
 use Rattle.registry.proofs.Requests.{admitted-is}
-use Rattle.records.specs.Records.{requestsIn}
 use Rattle.records.proofs.Laws.{requests-on, requests-end}
 use Rattle.batch_room.specs.declared.Standing.{Standing}
 use Rattle.batch_room.specs.Room.{roomReply, shareWith, standingOf, stationAt, standingAt, takenAt, roomRun}
@@ -161,10 +160,10 @@ sums-more t ca f s e l =
     let c = stations-split t ca f s w in
     let h : total held (t .stations) ≡ total held (w .before) + (held s + total held (w .after)) = ap (total held) (w .split) ∙ total-at held (w .before) s (w .after) in
     let h′ : total held (changed t ca f .stations) ≡ total held (w .before) + (length (f (s .points)) + total held (w .after)) =
-      ap (total held) c ∙ total-at held (w .before) (withPoints f s) (w .after) in
+    ap (total held) c ∙ total-at held (w .before) (withPoints f s) (w .after) in
     let u : total unmet (t .stations) ≡ total unmet (w .before) + (unmet s + total unmet (w .after)) = ap (total unmet) (w .split) ∙ total-at unmet (w .before) s (w .after) in
     let u′ : total unmet (changed t ca f .stations) ≡ total unmet (w .before) + (s .reservation - length (f (s .points)) + total unmet (w .after)) =
-      ap (total unmet) c ∙ total-at unmet (w .before) (withPoints f s) (w .after) in
+    ap (total unmet) c ∙ total-at unmet (w .before) (withPoints f s) (w .after) in
     (omega arith, omega arith)
 
 -- what a share that takes one in loses of its unmet room
@@ -180,7 +179,7 @@ unmet-lost s h =
 along-on : (m taken : List ℕ) (free unmet′ : ℕ) (t : Table) (q : Request) (j first h : ℕ) → Along m taken free unmet′ t → seatAt m (q .ca) ≡ Here j first h
     → isDone (standingOf (shareWith m (stationAt m j) (getD taken j 0)) free unmet′ .outcome) ≡ true
     → Along m (set taken j (getD taken j 0 + 1)) (standingOf (shareWith m (stationAt m j) (getD taken j 0)) free unmet′ .free)
-      (standingOf (shareWith m (stationAt m j) (getD taken j 0)) free unmet′ .unmet) (withRequest t q)
+    (standingOf (shareWith m (stationAt m j) (getD taken j 0)) free unmet′ .unmet) (withRequest t q)
 unfolding standingOf added changed
 along-on m taken free unmet′ t q j first h a e d =
     let k = asked-at m taken free unmet′ t (q .ca) j first h a e in
@@ -193,7 +192,7 @@ along-on m taken free unmet′ t q j first h a e d =
     let S : Share = shareWith m (stationAt m j) (getD taken j 0) in
     let below : S .held < S .ceiling = done-below S free unmet′ d in
     let lost : unmetOf S - unmetOf (takenIn S) ≡ (s .reservation - length (s .points)) - (s .reservation - (length (s .points) + 1)) =
-      unmet-lost S below ∙ ap (λ (x : Share). (x .reservation - x .held) - (x .reservation - (x .held + 1))) (sym (k .share)) in
+    unmet-lost S below ∙ ap (λ (x : Share). (x .reservation - x .held) - (x .reservation - (x .held + 1))) (sym (k .share)) in
     let is-free : free ≡ t .capacity - total held (t .stations) = a .is-free in
     let is-unmet : unmet′ ≡ total unmet (t .stations) = a .is-unmet in
     let room : two m 6 ≤ length taken = a .room in
@@ -228,11 +227,11 @@ none-left i t = refl
 -- the turn of a request by its seat
 turn-law : (m taken : List ℕ) (free unmet′ i : ℕ) (t : Table) (q : Request) (qs : List Request) (s : Seat) → Along m taken free unmet′ t → seatAt m (q .ca) ≡ s
     → ((taken : List ℕ) (free unmet′ : ℕ) → Along m taken free unmet′ (withRequest t q)
-      → roomRun m taken free unmet′ (i + 1) qs ≡ replyOf (roomTests (withRequest t q) (i + 1) qs))
+    → roomRun m taken free unmet′ (i + 1) qs ≡ replyOf (roomTests (withRequest t q) (i + 1) qs))
     → pick (isDone (standingAt m taken s free unmet′ .outcome))
-      (roomRun m (takenAt m taken s free unmet′) (standingAt m taken s free unmet′ .free) (standingAt m taken s free unmet′ .unmet) (i + 1) qs)
-      (record { outcome = standingAt m taken s free unmet′ .outcome; place = i })
-      ≡ replyOf (roomTests t i (q ∷ qs))
+    (roomRun m (takenAt m taken s free unmet′) (standingAt m taken s free unmet′ .free) (standingAt m taken s free unmet′ .unmet) (i + 1) qs)
+    (record { outcome = standingAt m taken s free unmet′ .outcome; place = i })
+    ≡ replyOf (roomTests t i (q ∷ qs))
 unfolding roomTests standingAt takenAt roomFault replyOf
 turn-law m taken free unmet′ i t q qs (Here j first h) a e again =
     one-turn _ _ i t _ _ (same-fault m taken free unmet′ t (q .ca) (Here j first h) a e)

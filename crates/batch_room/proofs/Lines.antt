@@ -2,21 +2,20 @@
 use mathlib.Core.Path.{_≡_, refl, sym, ap, _∙_, subst}
 use mathlib.Core.List.{List, [], _∷_, map}
 use mathlib.Core.Bool.{Bool, true, false}
-use mathlib.Core.Option.{Option, none, some}
-use Prim.Native.Nat.{ℕ, zero, suc, _+_, _*_, _-_, _≤_, _<_}
+use mathlib.Core.Option.{none, some}
+use Prim.Native.Nat.{ℕ, zero, suc, _+_, _*_, _≤_, _<_}
 use native.Mathlib.Omega.{arith}
-use lib.ListN.{length, getD, set, length-set}
+use lib.ListN.{length, getD, set}
 use lib.Seq.{getD-set-same, getD-set-other}
 use lib.Dec.{eqb}
 use borrow.Author.Tests.{eqb-true, eqb-false, eq-eqb, ne-eqb}
 use Rattle.limits.specs.Test.{pick}
 use Rattle.octets.specs.Number.{two}
 use Rattle.model.specs.declared.Point.{Point}
-use Rattle.table.specs.Table.{Station, Table, held, shareOf}
-use Rattle.table.specs.Memory.{pointsAt, stationsAt, tableOf}
+use Rattle.table.specs.Table.{Station, held, shareOf}
+use Rattle.table.specs.Memory.{pointsAt, stationsAt}
 use Rattle.table.specs.Change.{stationOf, inStation, withPoints}
 use Rattle.table.proofs.Points.{length-pointsAt}
-use Rattle.seats.specs.declared.Seat.{Seat}
 use Rattle.seats.specs.declared.Seat.the-variants.{Here, NotPlanned}
 use Rattle.seats.specs.Seats.{seatIn}
 use Rattle.registry.specs.History.{Holding, holdingOf}
@@ -81,13 +80,13 @@ asked-here m taken base ca i sb n s ss t b l r =
       share = ap (λ (x : Holding). record { held = x .held; reservation = x .reservation; ceiling = x .ceiling }) l ∙ ap (λ (x : ℕ). shareWith m x (getD taken i 0)) b;
       inside = (omega arith, omega arith);
       one-more = λ f e k.
-        let v : getD (set taken i (getD taken i 0 + 1)) i 0 ≡ getD taken i 0 + 1 = getD-set-same taken i (getD taken i 0 + 1) 0 k in
-        let x : length (f (s .points)) ≡ two m (sb + 6) + getD (set taken i (getD taken i 0 + 1)) i 0 = omega arith in
-        let y : holdingOf (withPoints f s) ≡ lineWith m sb (getD (set taken i (getD taken i 0 + 1)) i 0) =
+          let v : getD (set taken i (getD taken i 0 + 1)) i 0 ≡ getD taken i 0 + 1 = getD-set-same taken i (getD taken i 0 + 1) 0 k in
+          let x : length (f (s .points)) ≡ two m (sb + 6) + getD (set taken i (getD taken i 0 + 1)) i 0 = omega arith in
+          let y : holdingOf (withPoints f s) ≡ lineWith m sb (getD (set taken i (getD taken i 0 + 1)) i 0) =
           λ z. record { ca = l z .ca; reservation = l z .reservation; ceiling = l z .ceiling; held = x z } in
-        let w : map holdingOf ss ≡ linesAt m (set taken i (getD taken i 0 + 1)) (i + 1) (sb + 8) n =
+          let w : map holdingOf ss ≡ linesAt m (set taken i (getD taken i 0 + 1)) (i + 1) (sb + 8) n =
           r ∙ sym (lines-past m taken i (getD taken i 0 + 1) (i + 1) (sb + 8) n (omega arith)) in
-        simp (eq-eqb _ _ c) (λ z. y z ∷ w z);
+          simp (eq-eqb _ _ c) (λ z. y z ∷ w z);
     }
 
 -- the station of a later line
@@ -105,11 +104,11 @@ asked-later m taken base ca j i sb n s ss t l q =
       share = q .share;
       inside = (omega arith, omega arith);
       one-more = λ f e k.
-        let d : i ≡ j → ⊥ = omega arith in
-        let v : getD taken i 0 ≡ getD (set taken j (getD taken j 0 + 1)) i 0 = sym (getD-set-other taken j i (getD taken j 0 + 1) 0 d) in
-        let y : holdingOf s ≡ lineWith m sb (getD (set taken j (getD taken j 0 + 1)) i 0) = l ∙ ap (lineWith m sb) v in
-        let w = q .one-more f e k in
-        simp (ne-eqb _ _ c) (λ z. y z ∷ w z);
+          let d : i ≡ j → ⊥ = omega arith in
+          let v : getD taken i 0 ≡ getD (set taken j (getD taken j 0 + 1)) i 0 = sym (getD-set-other taken j i (getD taken j 0 + 1) 0 d) in
+          let y : holdingOf s ≡ lineWith m sb (getD (set taken j (getD taken j 0 + 1)) i 0) = l ∙ ap (lineWith m sb) v in
+          let w = q .one-more f e k in
+          simp (ne-eqb _ _ c) (λ z. y z ∷ w z);
     }
 
 -- no lines for a station, no station for a line

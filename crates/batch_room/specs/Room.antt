@@ -1,6 +1,6 @@
 -- The share rule over a batch: the answer, and below the line the turns as the code takes them.
 -- Document 01, 'Points, stations and shares': then the share rule as if registered one by one.
-use Prim.Native.Nat.{ℕ, zero, suc, _+_, _*_, _-_}
+use Prim.Native.Nat.{ℕ, _+_, _*_, _-_}
 use mathlib.Core.List.{List, [], _∷_}
 use lib.ListN.{getD, set}
 use Rattle.limits.specs.Test.{pick}

@@ -1,12 +1,12 @@
 -- The tests 11 to 17 of one record, case by case, and the turns of a batch's own tests. Assumes nothing.
 use mathlib.Core.Path.{_≡_, refl, sym, ap, _∙_}
-use mathlib.Core.List.{List, [], _∷_}
+use mathlib.Core.List.{List, []}
 use mathlib.Core.Bool.{Bool, true, false}
 use mathlib.Core.Option.{Option, none, some}
-use Prim.Native.Nat.{ℕ, zero, suc, _+_, _*_, _-_, _/_, _≤_, _<_}
+use Prim.Native.Nat.{ℕ, _+_, _*_, _-_, _/_, _≤_, _<_}
 use native.Mathlib.Omega.{arith}
 use lib.ListN.{length}
-use Rattle.limits.specs.Test.{_&_, pick}
+use Rattle.limits.specs.Test.{pick}
 use Rattle.limits.specs.Outcome.{isDone}
 use Rattle.limits.specs.declared.outcome.Outcome.{Outcome}
 use Rattle.limits.specs.declared.outcome.Outcome.the-variants.{Done, AddressTwice, AlreadyRegistered}
@@ -15,13 +15,12 @@ use Rattle.model.specs.Request.{ownFault, requestAt, requestsAt}
 use Rattle.model.proofs.Requests.{Unplanned, unplanned}
 use Rattle.model.proofs.Requests.Unplanned.{unknown, station}
 use Rattle.table.specs.Table.{Station, Table, rising}
-use Rattle.table.specs.Memory.{pointsAt, tableOf}
+use Rattle.table.specs.Memory.{pointsAt}
 use Rattle.table.specs.Change.{stationOf, known, seekIn}
 use Rattle.seats.specs.declared.Spot.the-variants.{Held, Missing}
 use Rattle.seats.specs.Find.{spotIn, findAt}
 use Rattle.seats.proofs.Laws.{Seen}
 use Rattle.seats.proofs.Halving.{find-law}
-use Rattle.registry.specs.declared.Reply.{Reply}
 use Rattle.registry.specs.Effect.{firstFault}
 use Rattle.registry.specs.Registry.{isPlanned, isRegistered, registeredFault, standsIn, batchFault, ownTests}
 use Rattle.records.specs.Records.{requestsIn, earlierAt}

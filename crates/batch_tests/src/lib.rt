@@ -4,16 +4,20 @@ use registry::Reply;
 use seats::Seat;
 use seats::Spot;
 ghost use mathlib.Core.Path.{_≡_};
-ghost use mathlib.Core.Bool.{true};
+ghost use mathlib.Core.Bool.{true, false};
 ghost use mathlib.Core.List.{[]};
-ghost use Prim.Native.Nat.{_+_, _*_, _≤_};
+ghost use Prim.Native.Nat.{_+_, _*_, _≤_, _<_};
 ghost use lib.ListN.{length};
+ghost use Rattle.octets.specs.Number.{two, four};
 ghost use Rattle.model.specs.Request.{requestAt};
 ghost use Rattle.table.specs.Memory.{wellFormed, tableOf};
 ghost use Rattle.seats.specs.Find.{findAt};
-ghost use Rattle.records.specs.Records.{requestsIn, earlierAt};
+ghost use Rattle.records.specs.Records.{requestsIn, earlierAt, standsBefore};
 ghost use Rattle.registry.specs.Registry.{batchFault, ownTests};
-ghost use Rattle.batch_tests.specs.Tests.{isHeld};
+ghost use Rattle.batch_tests.specs.Tests.{isHeld, flagOf, flagAt};
+
+// How many flags there are for the addresses passed.
+const FLAGS: usize = 16384;
 
 // Is there a point with the IOA among the n places from `first`?
 fn is_held(m: &[u8], first: usize, n: usize, ioa: usize) -> bool
@@ -27,9 +31,38 @@ fn is_held(m: &[u8], first: usize, n: usize, ioa: usize) -> bool
     }
 }
 
+// The flag of an address. Any number would be right; with this one stations that have the same IOAs do not share flags.
+fn flag_of(ca: usize, ioa: usize) -> usize
+    requires { ⌜ (ca < 65536) × (ioa < 4294967296) ⌝ }
+    ensures { λ r. ⌜ (r ≡ flagOf ca ioa) × (r < 16384) ⌝ }
+{
+    (ioa + 10125 * ca) % FLAGS
+}
+
+// The flag of the record at `at`.
+fn flag_at(records: &[u8], at: usize) -> usize
+    requires { ⌜ at + 24 ≤ length (now records) ⌝ }
+    ensures { λ r. ⌜ (r ≡ flagAt (now (records .entry)) at) × (r < 16384) ⌝ }
+{
+    let ca = octets::two_at(records, at);
+    let ioa = octets::four_at(records, at + 2);
+    flag_of(ca, ioa)
+}
+
+// Does the address stand in one of the first n records? Only where its flag is set are they looked at.
+fn stands_flagged(records: &[u8], ca: usize, ioa: usize, n: usize, flag: u8) -> bool
+    requires { ⌜ (24 * n ≤ length (now records)) × (flag ≡ 0 → standsBefore (now records) ca ioa n ≡ false) ⌝ }
+    ensures { λ r. ⌜ r ≡ standsBefore (now (records .entry)) ca ioa n ⌝ }
+{
+    if flag == 0 {
+        return false;
+    }
+    records::stands_before(records, ca, ioa, n)
+}
+
 // The first of the tests 11 to 17 that the record of place i fails: the earlier records of the batch count for 16, the table for 12 and 17.
-fn fault_at(m: &[u8], records: &[u8], i: usize) -> Outcome
-    requires { ⌜ (wellFormed (now m) ≡ true) × (24 * i + 24 ≤ length (now records)) ⌝ }
+fn fault_at(m: &[u8], records: &[u8], i: usize, flag: u8) -> Outcome
+    requires { ⌜ (wellFormed (now m) ≡ true) × (24 * i + 24 ≤ length (now records)) × (flag ≡ 0 → standsBefore (now records) (two (now records) (24 * i)) (four (now records) (24 * i + 2)) i ≡ false) ⌝ }
     ensures { λ r. ⌜ r ≡ batchFault (tableOf (now (m .entry))) (earlierAt (now (records .entry)) i) (requestAt (now (records .entry)) (24 * i)) ⌝ }
 {
     let at = 24 * i;
@@ -44,7 +77,7 @@ fn fault_at(m: &[u8], records: &[u8], i: usize) -> Outcome
     if !own.is_done() {
         return own;
     }
-    if records::stands_before(records, ca, ioa, i) {
+    if stands_flagged(records, ca, ioa, i, flag) {
         return Outcome::AddressTwice;
     }
     if is_held(m, first, held, ioa) {
@@ -53,25 +86,36 @@ fn fault_at(m: &[u8], records: &[u8], i: usize) -> Outcome
     Outcome::Done
 }
 
-// Every record passes its own tests, or the first that does not is named.
-pub fn own_tests(m: &[u8], records: &[u8]) -> Reply
-    requires { ⌜ wellFormed (now m) ≡ true ⌝ }
+// The tests of one record after another; the flags of those that passed are set.
+fn tests_of(m: &[u8], records: &[u8], flags: &mut [u8; FLAGS]) -> Reply
+    requires { ⌜ (wellFormed (now m) ≡ true) × (length (now flags) ≡ 16384) ⌝ }
     ensures { λ r. ⌜ r ≡ ownTests (tableOf (now (m .entry))) [] 0 (requestsIn (now (records .entry))) ⌝ }
 {
     let n = records.len() / 24;
     let mut i: usize = 0;
     while i < n {
-        let outcome = fault_at(m, records, i);
+        let k = flag_at(records, 24 * i);
+        let outcome = fault_at(m, records, i, flags[k]);
         if !outcome.is_done() {
             return Reply {
                 outcome: outcome,
                 place: i,
             };
         }
+        flags[k] = 1;
         i += 1;
     }
     Reply {
         outcome: Outcome::Done,
         place: 0,
     }
+}
+
+// Every record passes its own tests, or the first that does not is named.
+pub fn own_tests(m: &[u8], records: &[u8]) -> Reply
+    requires { ⌜ wellFormed (now m) ≡ true ⌝ }
+    ensures { λ r. ⌜ r ≡ ownTests (tableOf (now (m .entry))) [] 0 (requestsIn (now (records .entry))) ⌝ }
+{
+    let mut flags = [0u8; FLAGS];
+    tests_of(m, records, &mut flags)
 }

@@ -1,16 +1,15 @@
 -- The requests of a flat list, one after another, and the search for an address among the earlier ones. Assumes nothing.
-use mathlib.Core.Path.{_≡_, refl, sym, ap, _∙_}
+use mathlib.Core.Path.{_≡_, refl, ap, _∙_}
 use mathlib.Core.List.{List, [], _∷_}
-use mathlib.Core.Bool.{Bool, true, false}
+use mathlib.Core.Bool.{true, false}
 use Prim.Native.Nat.{ℕ, zero, suc, _+_, _*_, _-_, _≤_, _<_}
 use native.Mathlib.Omega.{arith}
-use lib.ListN.{length}
-use Rattle.limits.specs.Test.{_&_, pick}
+use Rattle.limits.specs.Test.{pick}
 use Rattle.model.specs.declared.Request.{Request}
 use Rattle.model.specs.Request.{requestAt, requestsAt}
 use Rattle.registry.specs.Registry.{standsIn}
 use Rattle.registry.specs.History.{AllTwelve}
-use Rattle.records.specs.Records.{requestsIn, earlierAt, addressAt, standsBefore}
+use Rattle.records.specs.Records.{earlierAt, addressAt, standsBefore}
 
 -- ---- one request after another
 

@@ -1,4 +1,4 @@
-// Counters set to 0 in a table's memory. From `reset_counters` of `system_command_handler.rs`.
+// Counters set to 0 in a table's memory. From `apply_counter_freeze_qualifier` of `system_command_handler.rs`.
 use asdu::types_id::M_IT_NA_1;
 use asdu::types_id::M_IT_TB_1;
 use report::Selection;

@@ -1,4 +1,4 @@
-// Start of a connection: the end of initialisation. From `handle_new_connection` of `actor.rs` and `end_of_initialization_asdu` of `output.rs`.
+// Start of a connection: the end of initialisation. From `send_end_of_initialization` of `actor.rs`, and `end_of_initialization_asdu` and `station_common_address` of `output.rs`.
 use answers::Answered;
 use asdu::cot::INITIATED;
 use asdu::header::Header;

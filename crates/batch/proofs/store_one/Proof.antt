@@ -11,7 +11,7 @@ use Rattle.model.specs.declared.Point.{Point}
 use Rattle.model.specs.Request.{pointOf, requestAt}
 use Rattle.table.specs.Memory.{wellFormed, tableOf}
 use Rattle.table.proofs.Parse.{passed}
-use Rattle.seats.specs.declared.Seat.the-variants.{Here, NotPlanned}
+use Rattle.seats.specs.declared.Seat.the-variants.{Here}
 use Rattle.seats.specs.declared.Spot.the-variants.{Held, Missing}
 use Rattle.seats.specs.Seats.{seatAt}
 use Rattle.seats.specs.Find.{findAt}

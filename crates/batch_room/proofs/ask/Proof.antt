@@ -1,5 +1,6 @@
+-- The answer and the two numbers, each from the function that makes it. Assumes nothing.
 use borrow.Author.Needs.{needs}
-use mathlib.Core.Path.{_≡_, refl, sym, ap, ap₂, _∙_}
+use mathlib.Core.Path.{ap, ap₂, _∙_}
 use Prim.Native.Nat.{_-_}
 use Rattle.registry.specs.Registry.{admissionOutcome}
 use Rattle.limits.specs.Share.{unmetOf}
@@ -38,7 +39,7 @@ returns c =
     let answer = c .before .before .outcome-of .ensures ∙ ap admissionOutcome (c .before .before .before .before .before .before .before .admission .ensures) in
     let more = c .before .before .before .before .before .before .take-in .ensures in
     let lost = c .before .before .before .without .ensures
-      ∙ ap₂ (λ (x y : _). x - y) (c .before .before .before .before .before .unmet .ensures) (c .before .before .before .before .unmet2 .ensures ∙ ap unmetOf more) in
+    ∙ ap₂ (λ (x y : _). x - y) (c .before .before .before .before .before .unmet .ensures) (c .before .before .before .before .unmet2 .ensures ∙ ap unmetOf more) in
     let free = c .before .without2 .ensures in
     let unmet = c .without3 .ensures ∙ ap (λ (x : _). a .unmet - x) lost in
     (λ j. record { outcome = answer j; free = free j; unmet = unmet j })

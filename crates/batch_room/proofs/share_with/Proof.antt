@@ -1,6 +1,5 @@
+-- The share's numbers are the octets' and what was taken in. Assumes nothing.
 use borrow.Author.Needs.{needs}
-use native.Mathlib.Omega.{arith}
-use mathlib.Core.Path.{_≡_, sym, ap, _∙_}
 use Prim.Native.Nat.{_+_}
 use Rattle.batch_room.specs.Room.{shareWith}
 use Rattle.batch_room.proofs.share_with.Statement.{statement}

@@ -125,7 +125,7 @@ add-taken c =
     let x : c .before .before .ask .result ≡ standingOf (shareWith m (stationAt m (g .0 .0)) taken) (a .free) (a .unmet) = c .before .before .ask .ensures ∙ ap (λ (y : Share). standingOf y (a .free) (a .unmet)) s in
     let d : isDone (c .before .before .ask .result .outcome) ≡ true = sym (c .before .is-done .ensures) ∙ not-false _ (c .if1 .left) in
     let b : shareWith m (stationAt m (g .0 .0)) taken .held < shareWith m (stationAt m (g .0 .0)) taken .ceiling =
-      done-below (shareWith m (stationAt m (g .0 .0)) taken) (a .free) (a .unmet) (ap (λ (y : Standing). isDone (y .outcome)) (sym x) ∙ d) in
+    done-below (shareWith m (stationAt m (g .0 .0)) taken) (a .free) (a .unmet) (ap (λ (y : Standing). isDone (y .outcome)) (sym x) ∙ d) in
     let l : shareWith m (stationAt m (g .0 .0)) taken .ceiling < 65536 = subst (λ (y : Share). y .ceiling < 65536) s (c .before .before .before .share-with .ensures .1) in
     record { fits = omega arith }
 

@@ -2,7 +2,7 @@
 use borrow.Author.Needs.{needs}
 use native.Mathlib.Omega.{arith}
 use borrow.Author.Tests.{not-true, not-false}
-use mathlib.Core.Path.{_≡_, refl, sym, ap, ap₂, _∙_}
+use mathlib.Core.Path.{_≡_, sym, ap, ap₂, _∙_}
 use mathlib.Core.Bool.{true, false}
 use Prim.Native.Nat.{ℕ, _+_, _*_}
 use denote.Ref.{now}
@@ -92,8 +92,16 @@ returns-2 c =
     let d : isDone (ownFault true q) ≡ false = sym (c .before .is-done .ensures ∙ ap isDone (c .before .before .own-fault2 .ensures ∙ ap (ownFault true) f)) ∙ not-true _ (c .if1 .taken) in
     c .before .before .own-fault2 .ensures ∙ ap (ownFault true) f ∙ fault-own (tableOf m) (earlierAt r (a .i)) q (s .seat .s) (s .seat .is-station) d
 
-stands-before-requires : tie.Need-stands-before-requires
-stands-before-requires c κs = search needs
+stands-flagged-requires : tie.Need-stands-flagged-requires
+stands-flagged-requires c κs =
+    let a = c .before .before .before .before .before .before .before .before .before .before .before .before .args in
+    let m = now (a .m) in
+    let r = now (a .records) in
+    let w : wellFormed m ≡ true = c .before .before .before .before .before .before .before .before .before .before .before .before .pre .0 in
+    let e : c .before .before .before .before .before .before .before .before .two-at .result ≡ two r (24 * a .i) = c .before .before .before .before .before .before .before .before .two-at .ensures .0 in
+    let k : c .before .before .before .before .before .before .before .four-at .result ≡ four r (24 * a .i + 2) = c .before .before .before .before .before .before .before .four-at .ensures .0 in
+    let z = c .before .before .before .before .before .before .before .before .before .before .before .before .pre .2 in
+    (omega arith, λ f. ap₂ (λ (x y : ℕ). standsBefore r x y (a .i)) e k ∙ z f)
 
 returns-3 : tie.Need-returns-3
 returns-3 c =
@@ -109,7 +117,7 @@ returns-3 c =
     let s = seat-law m (two r (24 * a .i)) (g .0 .0) (g .0 .1 .0) (g .0 .1 .1 .0) o w (ap (seatAt m) (sym e) ∙ sym (c .before .before .before .before .before .before .before .before .seat-at .ensures) ∙ g .1) in
     let d : isDone (ownFault true q) ≡ true = sym (c .before .before .before .is-done .ensures ∙ ap isDone (c .before .before .before .before .own-fault2 .ensures ∙ ap (ownFault true) f)) ∙ not-false _ (c .before .before .if1 .left) in
     let k : c .before .before .before .before .before .before .before .before .before .four-at .result ≡ four r (24 * a .i + 2) = c .before .before .before .before .before .before .before .before .before .four-at .ensures .0 in
-    let b : standsIn q (earlierAt r (a .i)) ≡ true = stands-law r q (a .i) ∙ ap₂ (λ (x y : ℕ). standsBefore r x y (a .i)) (sym e) (sym k) ∙ sym (c .before .stands-before .ensures) ∙ c .if2 .taken in
+    let b : standsIn q (earlierAt r (a .i)) ≡ true = stands-law r q (a .i) ∙ ap₂ (λ (x y : ℕ). standsBefore r x y (a .i)) (sym e) (sym k) ∙ sym (c .before .stands-flagged .ensures) ∙ c .if2 .taken in
     fault-twice (tableOf m) (earlierAt r (a .i)) q (s .seat .s) (s .seat .is-station) d b
 
 is-held-requires : tie.Need-is-held-requires
@@ -142,7 +150,7 @@ returns-4 c =
     let s = seat-law m (two r (24 * a .i)) (g .0 .0) (g .0 .1 .0) (g .0 .1 .1 .0) o w (ap (seatAt m) (sym e) ∙ sym (c .before .before .before .before .before .before .before .before .before .before .seat-at .ensures) ∙ g .1) in
     let d : isDone (ownFault true q) ≡ true = sym (c .before .before .before .before .before .is-done .ensures ∙ ap isDone (c .before .before .before .before .before .before .own-fault2 .ensures ∙ ap (ownFault true) f)) ∙ not-false _ (c .before .before .before .before .if1 .left) in
     let k : c .before .before .before .before .before .before .before .before .before .before .before .four-at .result ≡ four r (24 * a .i + 2) = c .before .before .before .before .before .before .before .before .before .before .before .four-at .ensures .0 in
-    let b : standsIn q (earlierAt r (a .i)) ≡ false = stands-law r q (a .i) ∙ ap₂ (λ (x y : ℕ). standsBefore r x y (a .i)) (sym e) (sym k) ∙ sym (c .before .before .before .stands-before .ensures) ∙ c .before .before .if2 .left in
+    let b : standsIn q (earlierAt r (a .i)) ≡ false = stands-law r q (a .i) ∙ ap₂ (λ (x y : ℕ). standsBefore r x y (a .i)) (sym e) (sym k) ∙ sym (c .before .before .before .stands-flagged .ensures) ∙ c .before .before .if2 .left in
     let h : known (q .ioa) (s .seat .s .points) ≡ true = sym (held-known m _ _ _ _ (q .ioa) s) ∙ ap (λ (x : ℕ). isHeld (findAt m (g .0 .1 .0) (g .0 .1 .1 .0) x)) (sym k) ∙ sym (c .before .is-held .ensures) ∙ c .if3 .taken in
     fault-known (tableOf m) (earlierAt r (a .i)) q (s .seat .s) (s .seat .is-station) d b h
 
@@ -160,7 +168,7 @@ returns-5 c =
     let s = seat-law m (two r (24 * a .i)) (g .0 .0) (g .0 .1 .0) (g .0 .1 .1 .0) o w (ap (seatAt m) (sym e) ∙ sym (c .before .before .before .before .before .before .before .before .before .before .seat-at .ensures) ∙ g .1) in
     let d : isDone (ownFault true q) ≡ true = sym (c .before .before .before .before .before .is-done .ensures ∙ ap isDone (c .before .before .before .before .before .before .own-fault2 .ensures ∙ ap (ownFault true) f)) ∙ not-false _ (c .before .before .before .before .if1 .left) in
     let k : c .before .before .before .before .before .before .before .before .before .before .before .four-at .result ≡ four r (24 * a .i + 2) = c .before .before .before .before .before .before .before .before .before .before .before .four-at .ensures .0 in
-    let b : standsIn q (earlierAt r (a .i)) ≡ false = stands-law r q (a .i) ∙ ap₂ (λ (x y : ℕ). standsBefore r x y (a .i)) (sym e) (sym k) ∙ sym (c .before .before .before .stands-before .ensures) ∙ c .before .before .if2 .left in
+    let b : standsIn q (earlierAt r (a .i)) ≡ false = stands-law r q (a .i) ∙ ap₂ (λ (x y : ℕ). standsBefore r x y (a .i)) (sym e) (sym k) ∙ sym (c .before .before .before .stands-flagged .ensures) ∙ c .before .before .if2 .left in
     let h : known (q .ioa) (s .seat .s .points) ≡ false = sym (held-known m _ _ _ _ (q .ioa) s) ∙ ap (λ (x : ℕ). isHeld (findAt m (g .0 .1 .0) (g .0 .1 .1 .0) x)) (sym k) ∙ sym (c .before .is-held .ensures) ∙ c .if3 .left in
     fault-none (tableOf m) (earlierAt r (a .i)) q (s .seat .s) (s .seat .is-station) d b h
 
@@ -181,7 +189,7 @@ fault-at-spec =
     own-fault-requires-2
     is-done-requires
     returns-2
-    stands-before-requires
+    stands-flagged-requires
     returns-3
     is-held-requires
     returns-4

@@ -1,3 +1,4 @@
+-- What was found says whether the point is there. Assumes nothing.
 use borrow.Author.Needs.{needs}
 use mathlib.Core.Path.{sym, ap, _∙_}
 use Rattle.batch_tests.specs.Tests.{isHeld}

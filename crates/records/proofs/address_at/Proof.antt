@@ -1,8 +1,9 @@
+-- The two tests one after the other are the definition's. Assumes nothing.
 use borrow.Author.Needs.{needs}
 use native.Mathlib.Omega.{arith}
 use borrow.Author.Tests.{eq-eqb, ne-eqb}
 use denote.Ref.{now}
-use mathlib.Core.Path.{_≡_, refl, sym, _∙_}
+use mathlib.Core.Path.{_≡_}
 use Prim.Native.Nat.{_+_}
 use Rattle.limits.specs.Test.{_&_}
 use Rattle.octets.specs.Number.{two, four}

@@ -1,10 +1,10 @@
+-- The loop goes from the last record down, as the recursion of `standsBefore` does. Assumes nothing.
 use borrow.Author.Needs.{needs}
 use native.Mathlib.Omega.{arith}
-use denote.Ref.{now}
 use lib.ListN.{length}
-use Prim.Native.Nat.{_+_, _*_, _-_, _≤_}
+use Prim.Native.Nat.{_*_, _≤_}
 use mathlib.Core.Path.{_≡_, refl, sym, _∙_}
-use Rattle.records.specs.Records.{addressAt, standsBefore}
+use Rattle.records.specs.Records.{standsBefore}
 use Rattle.records.proofs.Laws.{stands-hit, stands-on, stands-end}
 use Rattle.records.proofs.stands_before.Statement.{statement}
 use Rattle.records.proofs.stands_before.Tie as tie

@@ -1,0 +1,23 @@
+-- What the entry gives back, in plain numbers; the memory is as the entry leaves it. Assumes nothing.
+use borrow.Author.Needs.{needs}
+use mathlib.Core.Path.{ap, _∙_}
+use Rattle.khuvelter.specs.Interface.{placeReply}
+use Rattle.khuvelter.proofs.khuvelter_unregister_all.Statement.{statement}
+use Rattle.khuvelter.proofs.khuvelter_unregister_all.Tie as tie
+
+unregister-all-requires : tie.Need-unregister-all-requires
+unregister-all-requires c κs = search needs
+
+place-reply-requires : tie.Need-place-reply-requires
+place-reply-requires c κs = search needs
+
+same-length : tie.Need-same-length
+same-length c = search needs
+
+returns : tie.Need-returns
+returns c =
+    let e = c .before .before .before .unregister-all .ensures in
+    (c .place-reply .ensures ∙ ap placeReply (e .0), e .1)
+
+pub khuvelter-unregister-all-spec : {M : Type 1} → statement M
+khuvelter-unregister-all-spec = tie.close (tie.spec unregister-all-requires place-reply-requires same-length returns)

@@ -1,0 +1,5 @@
+pub mod Meant
+pub mod Stored
+pub mod Told
+pub mod Sizes
+pub mod Turns

@@ -1,0 +1,74 @@
+-- One update after another: the memory holds a table at every turn, and what is told follows what was told before. Assumes nothing.
+use native.Mathlib.Omega.{arith}
+use denote.Ref.{now}
+use Rattle.octets.specs.Number.{Octets}
+use Rattle.updates.proofs.Turns.{Going, going-start, going-room, going-on, going-end}
+use borrow.Author.Needs.{needs}
+use Rattle.updates.proofs.apply.Statement.{statement}
+use Rattle.updates.proofs.apply.Tie as tie
+
+abbrev Inv-loop : tie.InvT-loop
+Inv-loop m₀ updates n spontaneous₀ o₀ at₀ left₀ m spontaneous o at left = Going m₀ updates n spontaneous₀ m spontaneous o at left
+
+abbrev μ-loop : tie.MeasureT-loop
+μ-loop m₀ updates n spontaneous₀ o₀ at₀ left₀ m spontaneous o at left = left
+
+loop-holds : tie.Need-loop-holds Inv-loop μ-loop
+loop-holds c =
+    let a = c .before .before .before .args in
+    let o : Octets (now (a .m)) = λ j. omega (arith, c .before .before .slice-known .given j) in
+    going-start (now (a .m)) (now (a .updates)) (a .n) (now (a .spontaneous)) o (c .before .before .before .pre .0) (c .before .before .before .pre .1)
+
+apply-next-requires : tie.Need-apply-next-requires Inv-loop μ-loop
+apply-next-requires c κs =
+    let a = c .before .before .before .before .before .before .before .args in
+    let l = c .before .before .before .loop in
+    let g = l .inv in
+    let w = g .whole in
+    (g .formed, omega arith, going-room (now (a .m)) (now (a .updates)) (a .n) (now (a .spontaneous)) (l .m) (l .spontaneous) (l .o) (l .at) (l .left) g (omega arith) (c .before .before .before .before .before .before .before .pre .2))
+
+add-at : tie.Need-add-at Inv-loop μ-loop
+add-at c = let w = c .before .before .before .before .before .before .before .before .loop .inv .whole in omega arith
+
+sub-left : tie.Need-sub-left Inv-loop μ-loop
+sub-left c = search needs
+
+loop-less : tie.Need-loop-less Inv-loop μ-loop
+loop-less c = search needs
+
+loop-again : tie.Need-loop-again Inv-loop μ-loop
+loop-again c =
+    let a = c .before .before .before .before .before .before .before .before .before .before .before .before .args in
+    let l = c .before .before .before .before .before .before .before .before .loop in
+    let p = c .before .before .before .before .apply-next in
+    let o : Octets (p .last .0) = λ j. omega (arith, c .before .before .slice-known3 .given j) in
+    going-on (now (a .m)) (now (a .updates)) (a .n) (now (a .spontaneous)) (l .m) (l .spontaneous) (l .o) (l .at) (l .left) (l .inv)
+    (p .last .0) (p .last .1 .1 .1 .0) (p .result) (omega arith) (c .before .before .before .before .before .before .before .before .before .before .before .before .pre .2) o (omega arith) (p .ensures .0) (p .ensures .1) (p .ensures .2)
+
+same-length : tie.Need-same-length Inv-loop μ-loop
+same-length c = c .before .loop .inv .same
+
+same-length-2 : tie.Need-same-length-2 Inv-loop μ-loop
+same-length-2 c = c .before .loop .inv .log .len
+
+returns : tie.Need-returns Inv-loop μ-loop
+returns c =
+    let a = c .before .before .before .before .before .args in
+    let l = c .before .loop in
+    going-end (now (a .m)) (now (a .updates)) (a .n) (now (a .spontaneous)) (l .m) (l .spontaneous) (l .o) (l .at) (l .left) (l .inv) (omega arith)
+
+pub apply-spec : {M : Type 1} → statement M
+apply-spec =
+    tie.close
+    (tie.spec
+    Inv-loop
+    μ-loop
+    loop-holds
+    apply-next-requires
+    add-at
+    sub-left
+    loop-less
+    loop-again
+    same-length
+    same-length-2
+    returns)
