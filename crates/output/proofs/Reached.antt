@@ -1,8 +1,8 @@
 -- The places that a common address reaches hold the points that it speaks of. Assumes nothing.
-use mathlib.Core.Path.{_≡_, refl, sym, ap, ap₂, _∙_, subst}
+use mathlib.Core.Path.{_≡_, refl, sym, ap, _∙_, subst}
 use mathlib.Core.List.{List, [], _∷_, _++_}
 use mathlib.Core.Bool.{Bool, true, false}
-use Prim.Native.Nat.{ℕ, zero, suc, _+_, _*_, _-_, _≤_, _<_}
+use Prim.Native.Nat.{ℕ, zero, suc, _+_, _*_, _-_, _≤_}
 use native.Mathlib.Omega.{arith}
 use lib.ListN.{length}
 use lib.Dec.{eqb}
@@ -12,8 +12,6 @@ use Rattle.octets.specs.Number.{two, Octets}
 use Rattle.asdu.specs.Header.{globalAddress}
 use Rattle.model.specs.declared.Point.{Point}
 use Rattle.model.specs.Place.{pointAt}
-use Rattle.table.specs.Table.{Station}
-use Rattle.table.specs.Change.{stationOf}
 use Rattle.table.specs.Memory.{pointsAt, stationsAt, sumAt, heldAt, tableOf, wellFormed}
 use Rattle.table.proofs.Parse.{Passed, passed}
 use Rattle.report.specs.declared.Selection.{Selection}
@@ -68,7 +66,7 @@ reached-all m w =
     let k = p .top .k-high in
     let f = p .few in
     let a : pointsAt m 64 (two m 8) ≡ allPoints (stationsAt m 64 (64 + 48 * two m 4) (two m 6)) =
-      ap (pointsAt m 64) (p .count) ∙ sym (all-read m 64 (64 + 48 * two m 4) (two m 6)) in
+    ap (pointsAt m 64) (p .count) ∙ sym (all-read m 64 (64 + 48 * two m 4) (two m 6)) in
     record { lies = omega arith; few = omega arith; points = ap byAddress a }
 
 no-point : (m : List ℕ) → pointsAt m 64 0 ≡ []

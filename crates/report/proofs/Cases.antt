@@ -1,20 +1,20 @@
 -- The sets of types, and cases g and h of document 01, by computation. Assumes nothing.
 use mathlib.Core.Path.{_≡_, refl}
-use mathlib.Core.List.{List, [], _∷_, _++_, map}
-use mathlib.Core.Bool.{Bool, true, false}
-use Prim.Native.Nat.{ℕ, zero, suc, _+_, _<_}
+use mathlib.Core.List.{List, [], _∷_, map}
+use mathlib.Core.Bool.{Bool, true}
+use Prim.Native.Nat.{ℕ, zero, suc, _<_}
 use native.Mathlib.Omega.{arith}
 use lib.ListN.{length, replicate}
 use lib.Dec.{ltb}
 use borrow.Author.Tests.{ltb-true}
 use Rattle.limits.specs.Test.{_&_}
 use Rattle.limits.proofs.Tests.{both}
-use Rattle.limits.specs.Size.{Kind, pointTypes, listed, octetsIn, pointOctets, standardLimit}
+use Rattle.limits.specs.Size.{pointTypes, listed, octetsIn, pointOctets, standardLimit}
 use Rattle.asdu.specs.Header.{header, object, asdu}
 use Rattle.model.specs.declared.Point.{Point}
 use Rattle.report.specs.Packing.{selected, joined, chunks, cut}
 use Rattle.report.specs.Selection.{interrogationTypes, counterTypes, Above, Ascending}
-use Rattle.report.specs.Report.{Piece, objectOf, octetsOf, pieces, asdus}
+use Rattle.report.specs.Report.{objectOf, octetsOf, pieces, asdus}
 
 -- a test for ascent, for computing
 ascends : ℕ → List ℕ → Bool

@@ -1,23 +1,22 @@
 -- Each selected point exactly once and nothing else, by type and then by address: ordering is proved here once, over the set of types. Assumes nothing.
-use mathlib.Core.Path.{_≡_, refl, sym, ap, ap₂, _∙_, subst}
+use mathlib.Core.Path.{_≡_, refl, sym, ap, ap₂, _∙_}
 use mathlib.Core.List.{List, [], _∷_, _++_}
 use mathlib.Core.Bool.{Bool, true, false}
-use mathlib.Core.Logic.{_⊎_, inl, inr}
-use Prim.Native.Nat.{ℕ, zero, suc, _+_, _≤_, _<_}
+use mathlib.Core.Logic.{inl, inr}
+use Prim.Native.Nat.{ℕ, suc, _+_, _≤_, _<_}
 use native.Mathlib.Omega.{arith}
-use lib.ListN.{length, length-append}
-use lib.Dec.{eqb, leb}
+use lib.ListN.{length}
+use lib.Dec.{eqb}
 use borrow.Author.Tests.{eqb-true, eqb-false, eq-eqb, ne-eqb, leb-true}
 use Rattle.limits.specs.Test.{_&_, pick}
 use Rattle.limits.proofs.Tests.{both, join}
 use Rattle.model.specs.declared.Point.{Point}
-use Rattle.model.specs.Place.{pointOk}
 use Rattle.table.specs.Table.{rising}
 use Rattle.report.specs.Packing.{selected, joined, Each, counted}
 use Rattle.report.specs.Selection.{among, Above, Ascending}
 use Rattle.report.specs.Report.{ofKind, ordered}
 use Rattle.report.specs.Order.{Before, InOrder, Climbing}
-use Rattle.report.proofs.Each.{each-append, each-selected, each-so, each-both, each-joined, selected-pass, selected-none, selected-same, selected-selected, selected-append, counted-append}
+use Rattle.report.proofs.Each.{each-append, each-selected, each-so, each-both, each-joined, selected-pass, selected-none, selected-selected, counted-append}
 
 -- ---- the set of types
 

@@ -1,17 +1,15 @@
 -- The laws of joining, filtering and cutting lists. Packing is proved here once, over the most objects of a piece. Assumes nothing.
 use mathlib.Core.Path.{_≡_, refl, sym, ap, ap₂, _∙_}
 use mathlib.Core.List.{List, [], _∷_, _++_, map, append-assoc}
-use mathlib.Core.Bool.{Bool, true, false}
-use Prim.Native.Nat.{ℕ, zero, suc, _+_, _*_, _-_, _/_, _≤_, _<_, min}
+use Prim.Native.Nat.{ℕ, zero, suc, _+_, _-_, _/_, _≤_, _<_, min}
 use native.Mathlib.Omega.{arith}
 use native.Mathlib.Numerals.{add-one}
 use native.Mathlib.Decide.{decLe}
 use native.Mathlib.Nat.{not-suc-le-zero, add-div-right, div-eq-of-lt}
-use lib.ListN.{length, take, drop, length-append, length-take, length-drop, length-map, take-append-drop, drop-of-length-le}
-use lib.Seq.{take-all, take-nil, drop-nil}
-use Rattle.limits.specs.Test.{pick, total}
+use lib.ListN.{length, take, drop, length-append, length-take, length-drop, take-append-drop}
+use Rattle.limits.specs.Test.{total}
 use Rattle.limits.specs.Size.{asdusOf}
-use Rattle.report.specs.Packing.{selected, joined, flat, cut, chunks, Full, Each}
+use Rattle.report.specs.Packing.{joined, flat, cut, chunks, Full}
 
 -- ---- joined lists
 

@@ -1,22 +1,22 @@
 -- What a report is made of, for any points in any order, any set of types and any length limit from 25 on:
 -- its objects in order, its ASDUs full but for the last of a type, none empty, none too long; and its length. Assumes nothing.
 use mathlib.Core.Path.{_≡_, refl, sym, ap, ap₂, _∙_, subst}
-use mathlib.Core.List.{List, [], _∷_, _++_, map, map-map}
-use mathlib.Core.Bool.{Bool, true, false}
-use Prim.Native.Nat.{ℕ, zero, suc, _+_, _*_, _-_, _≤_, _<_}
+use mathlib.Core.List.{List, [], _∷_, map}
+use mathlib.Core.Bool.{true}
+use Prim.Native.Nat.{ℕ, _+_, _*_, _-_, _≤_, _<_}
 use native.Mathlib.Omega.{arith}
-use lib.ListN.{length, take, length-append, length-map}
+use lib.ListN.{length, take, length-map}
 use lib.Seq.{length-take-le}
 use lib.Dec.{eqb}
 use borrow.Author.Tests.{eqb-true}
 use Rattle.limits.specs.Test.{total}
 use Rattle.limits.specs.Size.{pointOctets, mostObjects, asdusOf, runOctets}
 use Rattle.limits.proofs.Sizes.{point-at-most, one-fits, asdu-fits}
-use Rattle.asdu.specs.Header.{object, asdu}
+use Rattle.asdu.specs.Header.{object}
 use Rattle.asdu.proofs.Laws.{length-asdu}
 use Rattle.asdu.proofs.Laws.{length-object as length-any}
 use Rattle.model.specs.declared.Point.{Point}
-use Rattle.report.specs.Packing.{selected, joined, flat, chunks, Full, Each}
+use Rattle.report.specs.Packing.{joined, flat, chunks, Full, Each}
 use Rattle.report.specs.Report.{Piece, dataHeader, objectOf, ofKind, ordered, octetsOf, pieces, run, asdus, report}
 use Rattle.report.proofs.Packing.{joined-map, joined-joined, joined-same, map-joined, length-joined, chunks-flat, chunks-full, chunks-count}
 use Rattle.report.proofs.Each.{each-chunks, each-both, each-so, each-then, each-joined, each-selected, selected-pass, full-each, length-flat, total-more, total-same}

@@ -1,13 +1,13 @@
 -- ASDUs of one object: their lengths, and that the end of initialisation has the smallest CA with a point. Assumes nothing.
-use mathlib.Core.Path.{_≡_, refl, sym, ap, _∙_}
-use mathlib.Core.List.{List, [], _∷_, _++_}
+use mathlib.Core.Path.{_≡_, refl, ap, _∙_}
+use mathlib.Core.List.{List, [], _∷_}
 use mathlib.Core.Bool.{Bool, true, false}
-use Prim.Native.Nat.{ℕ, zero, suc, _+_, _≤_, _<_}
+use Prim.Native.Nat.{ℕ, _+_, _≤_, _<_}
 use native.Mathlib.Omega.{arith}
 use lib.ListN.{length, length-append}
 use lib.Dec.{eqb}
-use borrow.Author.Tests.{eqb-true, eqb-false, leb-true}
-use Rattle.limits.specs.Test.{_&_, pick}
+use borrow.Author.Tests.{eqb-true, leb-true}
+use Rattle.limits.specs.Test.{pick}
 use Rattle.limits.specs.Size.{pointOctets}
 use Rattle.limits.proofs.Tests.{both}
 use Rattle.asdu.specs.Header.{header, object, asdu}

@@ -1,8 +1,8 @@
 -- A report: the selected points, type by type, their objects packed into ASDUs. Its length limit, its set of types and the order of the points are parameters.
 -- Document 01, 'Octets of an ASDU' and 'What each command says'; IEC 60870-5-101, 7.1 and 7.2 (data unit identifier, information object address).
 use Prim.Native.Nat.{ℕ}
-use mathlib.Core.List.{List, [], _∷_, _++_, map}
-use mathlib.Core.Bool.{Bool, false}
+use mathlib.Core.List.{List, map}
+use mathlib.Core.Bool.{false}
 use lib.ListN.{length, take}
 use lib.Dec.{eqb}
 use Rattle.limits.specs.Size.{pointOctets, mostObjects}

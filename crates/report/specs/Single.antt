@@ -1,8 +1,7 @@
 -- ASDUs of one object: a point told spontaneously or on request, and the end of initialisation.
 -- Document 01, 'What each command says'; the Rust's `spontaneous_asdu`, `monitoring_asdu_requested`, `end_of_initialization_asdu`, `station_common_address`.
 use Prim.Native.Nat.{ℕ}
-use mathlib.Core.List.{List, [], _∷_, _++_}
-use lib.ListN.{length}
+use mathlib.Core.List.{List, [], _∷_}
 use lib.Dec.{eqb}
 use Rattle.limits.specs.Test.{pick}
 use Rattle.asdu.specs.Cause.{spontaneous, initiated, request}

@@ -1,39 +1,30 @@
+-- Fresh arrays are long enough, and the counts are zero.
 use borrow.Author.Needs.{needs}
 use native.Mathlib.Omega.{arith}
 use mathlib.Core.Path.{refl}
 use Rattle.output.proofs.data.put_data.Statement.{statement}
 use Rattle.output.proofs.data.put_data.Tie as tie
-use Rattle.output.proofs.data.put_data.Reads as reads
-use Rattle.output.proofs.data.put_data.Lts as lts
-use Rattle.output.proofs.data.put_with.Reads as put-with-reads
 
--- src/data.rt:45:81
 slice-aggregate-put-with : tie.Need-slice-aggregate-put-with
 slice-aggregate-put-with c = search needs
 
--- src/data.rt:45:94
 slice-aggregate-put-with-2 : tie.Need-slice-aggregate-put-with-2
 slice-aggregate-put-with-2 c = search needs
 
--- src/data.rt:45:106
 slice-aggregate-put-with-3 : tie.Need-slice-aggregate-put-with-3
 slice-aggregate-put-with-3 c = search needs
 
--- src/data.rt:45:117
 slice-aggregate-put-with-4 : tie.Need-slice-aggregate-put-with-4
 slice-aggregate-put-with-4 c = search needs
 
--- src/data.rt:45:5
 put-with-requires : tie.Need-put-with-requires
 put-with-requires c κs =
     let b = c .before .before .before .before .before .before .before .before in
     (omega arith, omega arith, omega arith, omega arith, omega arith, omega arith, omega arith, b .pre .7, omega arith, omega arith, omega arith, omega arith, refl)
 
--- src/data.rt:37:1
 same-length : tie.Need-same-length
 same-length c = search needs
 
--- src/data.rt:37:1
 returns : tie.Need-returns
 returns c = search needs
 

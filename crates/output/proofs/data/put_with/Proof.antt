@@ -1,30 +1,19 @@
+-- The chains of the places in order give the size and the octets of the report; the test of the room decides.
 use borrow.Author.Needs.{needs}
 use native.Mathlib.Omega.{arith}
-use mathlib.Core.Path.{_≡_, refl, sym, ap, ap₂, _∙_, subst}
-use mathlib.Core.List.{List, []}
-use mathlib.Core.Bool.{Bool, true, false}
-use Prim.Native.Nat.{ℕ, _+_, _*_, _-_, _≤_, _<_}
-use lib.ListN.{length, getD, take, drop, length-set}
+use mathlib.Core.Path.{_≡_, ap, _∙_}
+use Prim.Native.Nat.{_-_}
+use lib.ListN.{length}
 use denote.Ref.{now}
-use lib.ListN.{length-replicate}
 use Rattle.octets.specs.Over.{over}
-use Rattle.chains.specs.Follow.{reportOn}
 use Rattle.output.specs.Data.{dataOf}
 use Rattle.output.proofs.Answer.{Ready, ready, order-inside, order-long, short-wrote, short-written, full-wrote, full-written}
 use Rattle.output.proofs.data.put_with.Statement.{statement}
 use Rattle.output.proofs.data.put_with.Tie as tie
-use Rattle.output.proofs.data.put_with.Reads as reads
-use Rattle.output.proofs.data.put_with.Lts as lts
-use Rattle.chains.proofs.link.link.Reads as link-reads
-use Rattle.chains.proofs.write.put_report.Reads as put-report-reads
-use Rattle.chains.proofs.write.report_octets.Reads as report-octets-reads
-use Rattle.output.proofs.order.arrange.Reads as arrange-reads
 
--- src/data.rt:26:5
 arrange-requires : tie.Need-arrange-requires
 arrange-requires c κs = search needs
 
--- src/data.rt:27:5
 link-requires : tie.Need-link-requires
 link-requires c κs =
     let b = c .before .before .before .before .before .before .before .before .before .before .before .before .before .before .before in
@@ -36,7 +25,7 @@ link-requires c κs =
 -- what the writer may rely on
 go : (c : tie.After-link)
     → let a = c .before .before .before .before .before .before .before .before .before .before .before .before .before .before .before .before .args in
-      Ready (a .s) (now (a .m)) (a .base) (a .n) (a .every) (a .limit) (now (a .types)) (a .cause) (a .ca) (c .link .last .1 .1 .1 .1 .1 .0) (c .link .last .1 .1 .1 .1 .1 .1 .0) (c .link .last .1 .1 .1 .1 .1 .1 .1 .0)
+    Ready (a .s) (now (a .m)) (a .base) (a .n) (a .every) (a .limit) (now (a .types)) (a .cause) (a .ca) (c .link .last .1 .1 .1 .1 .1 .0) (c .link .last .1 .1 .1 .1 .1 .1 .0) (c .link .last .1 .1 .1 .1 .1 .1 .1 .0)
 go c =
     let b = c .before .before .before .before .before .before .before .before .before .before .before .before .before .before .before .before in
     let a = b .args in
@@ -45,47 +34,39 @@ go c =
     (λ i. omega (arith, c .before .before .before .before .before .before .before .before .before .before .before .before .before .before .shared-slice-known .given i)) (omega arith) (omega arith) (omega arith) (omega arith) (b .pre .7)
     (o .ensures) (c .link .ensures .0) (c .link .ensures .1) (c .link .ensures .2)
 
--- src/data.rt:28:9
 report-octets-requires : tie.Need-report-octets-requires
 report-octets-requires c κs =
     let b = c .before .before .before .before .before .before .before .before .before .before .before .before .before .before .before .before .before .before .before .before .before .before .before in
     let z : length (now (b .args .counts)) ≡ 64 = ap length (b .pre .12) in
     omega arith
 
--- src/data.rt:29:30
 add-if1 : tie.Need-add-if1
 add-if1 c = search needs
 
--- src/data.rt:29:20
 add-if1-2 : tie.Need-add-if1-2
 add-if1-2 c = search needs
 
--- src/data.rt:30:9
 same-length : tie.Need-same-length
 same-length c = search needs
 
--- src/data.rt:30:9
 same-length-2 : tie.Need-same-length-2
 same-length-2 c = search needs
 
--- src/data.rt:30:9
 same-length-3 : tie.Need-same-length-3
 same-length-3 c = search needs
 
--- src/data.rt:30:9
 same-length-4 : tie.Need-same-length-4
 same-length-4 c = search needs
 
--- src/data.rt:30:9
 returns : tie.Need-returns
 returns c =
     let a = c .before .before .before .before .before .before .before .before .before .before .before .before .before .before .before .before .before .before .before .before .before .before .before .before .before .args in
     let t = go (c .before .before .before .before .before .before .before .before .before) in
-    let k = c .before .report-octets .ensures .0 ∙ t .size in
-    (short-wrote (length (now (a .out))) (a .before) (a .after) (c .before .report-octets .result) (dataOf (a .limit) (now (a .types)) (a .cause) (a .ca) (a .s) (a .every) (now (a .m)) (a .base) (a .n)) k (omega arith),
-     short-written (now (a .out)) (a .before) (a .after) (c .before .report-octets .result) (dataOf (a .limit) (now (a .types)) (a .cause) (a .ca) (a .s) (a .every) (now (a .m)) (a .base) (a .n)) k (omega arith))
+    let k = c .before .report-octets .ensures .0 ∙ t .size in (
+      short-wrote (length (now (a .out))) (a .before) (a .after) (c .before .report-octets .result) (dataOf (a .limit) (now (a .types)) (a .cause) (a .ca) (a .s) (a .every) (now (a .m)) (a .base) (a .n)) k (omega arith),
+      short-written (now (a .out)) (a .before) (a .after) (c .before .report-octets .result) (dataOf (a .limit) (now (a .types)) (a .cause) (a .ca) (a .s) (a .every) (now (a .m)) (a .base) (a .n)) k (omega arith),
+    )
 
--- src/data.rt:32:5
 put-report-requires : tie.Need-put-report-requires
 put-report-requires c κs =
     let b = c .before .before .before .before .before .before .before .before .before .before .before .before .before .before .before .before .before .before .before .before .before .before .before .before .before .before .before .before .before in
@@ -97,35 +78,30 @@ put-report-requires c κs =
     let e = ap length (t .octets) in
     (omega arith, omega arith, omega arith, omega arith, omega arith, omega arith, omega arith, t .chains, omega arith)
 
--- src/data.rt:22:1
 same-length-5 : tie.Need-same-length-5
 same-length-5 c = search needs
 
--- src/data.rt:22:1
 same-length-6 : tie.Need-same-length-6
 same-length-6 c = search needs
 
--- src/data.rt:22:1
 same-length-7 : tie.Need-same-length-7
 same-length-7 c = search needs
 
--- src/data.rt:22:1
 same-length-8 : tie.Need-same-length-8
 same-length-8 c = search needs
 
--- src/data.rt:22:1
 same-length-9 : tie.Need-same-length-9
 same-length-9 c = search needs
 
--- src/data.rt:22:1
 returns-2 : tie.Need-returns-2
 returns-2 c =
     let a = c .before .before .before .before .before .before .before .before .before .before .before .before .before .before .before .before .before .before .before .before .before .before .before .before .before .before .before .before .before .before .before .before .args in
     let t = go (c .before .before .before .before .before .before .before .before .before .before .before .before .before .before .before .before) in
     let r = c .before .before .before .before .before .before .before .before .report-octets in
-    let k = r .ensures .0 ∙ t .size in
-    (full-wrote (length (now (a .out))) (a .before) (a .after) (r .result) (dataOf (a .limit) (now (a .types)) (a .cause) (a .ca) (a .s) (a .every) (now (a .m)) (a .base) (a .n)) k (omega arith),
-     c .before .before .put-report .ensures .1 ∙ ap (over (now (a .out)) (a .before)) (t .octets) ∙ full-written (now (a .out)) (a .before) (a .after) (r .result) (dataOf (a .limit) (now (a .types)) (a .cause) (a .ca) (a .s) (a .every) (now (a .m)) (a .base) (a .n)) k (omega arith))
+    let k = r .ensures .0 ∙ t .size in (
+      full-wrote (length (now (a .out))) (a .before) (a .after) (r .result) (dataOf (a .limit) (now (a .types)) (a .cause) (a .ca) (a .s) (a .every) (now (a .m)) (a .base) (a .n)) k (omega arith),
+      c .before .before .put-report .ensures .1 ∙ ap (over (now (a .out)) (a .before)) (t .octets) ∙ full-written (now (a .out)) (a .before) (a .after) (r .result) (dataOf (a .limit) (now (a .types)) (a .cause) (a .ca) (a .s) (a .every) (now (a .m)) (a .base) (a .n)) k (omega arith),
+    )
 
 pub put-with-spec : {M : Type 1} → statement M
 put-with-spec =

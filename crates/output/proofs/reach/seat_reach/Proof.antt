@@ -1,25 +1,19 @@
+-- Each arm is the definition's.
 use borrow.Author.Needs.{needs}
-use native.Mathlib.Omega.{arith}
 use mathlib.Core.Path.{sym, ap}
 use Rattle.output.specs.Reach.{seatReach}
 use Rattle.output.proofs.reach.seat_reach.Statement.{statement}
 use Rattle.output.proofs.reach.seat_reach.Tie as tie
-use Rattle.output.proofs.reach.seat_reach.Reads as reads
-use Rattle.output.proofs.reach.seat_reach.Lts as lts
 
--- src/reach.rt:23:23
 enum-known-seat : tie.Need-enum-known-seat
 enum-known-seat c = search needs
 
--- src/reach.rt:28:29
 enum-told : tie.Need-enum-told
 enum-told c = search needs
 
--- src/reach.rt:19:1
 returns : tie.Need-returns
 returns c = sym (ap seatReach (c .before .seat .given .1))
 
--- src/reach.rt:19:1
 returns-2 : tie.Need-returns-2
 returns-2 c = sym (ap seatReach (c .enum-told .given .1))
 

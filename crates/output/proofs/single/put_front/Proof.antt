@@ -1,43 +1,31 @@
+-- The header and then the object are the ASDU.
 use borrow.Author.Needs.{needs}
 use native.Mathlib.Omega.{arith}
-use mathlib.Core.Path.{_≡_, refl, sym, ap, ap₂, _∙_, subst}
-use mathlib.Core.List.{List, []}
-use mathlib.Core.Bool.{Bool, true, false}
-use Prim.Native.Nat.{ℕ, _+_, _*_, _-_, _≤_, _<_}
-use lib.ListN.{length, getD, take, drop, length-set}
+use mathlib.Core.Path.{_≡_, ap, _∙_}
+use mathlib.Core.List.{List}
+use Prim.Native.Nat.{ℕ, _-_}
+use lib.ListN.{length, getD}
 use denote.Ref.{now}
 use Rattle.octets.specs.Over.{over}
 use Rattle.octets.specs.Number.{Octets}
 use Rattle.asdu.specs.declared.header.Header.{Header}
 use Rattle.asdu.specs.Header.{header}
 use Rattle.asdu.proofs.Laws.{length-header}
-use Rattle.model.specs.Place.{pointAt}
 use Rattle.report.specs.Report.{dataHeader}
-use Rattle.report.specs.Single.{single}
 use Rattle.chains.specs.Follow.{objectAt}
 use Rattle.output.proofs.Alone.{single-over, single-long}
 use Rattle.output.proofs.single.put_front.Statement.{statement}
 use Rattle.output.proofs.single.put_front.Tie as tie
-use Rattle.output.proofs.single.put_front.Reads as reads
-use Rattle.output.proofs.single.put_front.Lts as lts
-use Rattle.asdu.proofs.header.put_header.Reads as put-header-reads
-use Rattle.chains.proofs.write.data_header.Reads as data-header-reads
-use Rattle.chains.proofs.write.put_object.Reads as put-object-reads
-use Rattle.limits.proofs.size.point_octets.Reads as point-octets-reads
 
--- src/single.rt:21:16
 shared-slice-read-kind : tie.Need-shared-slice-read-kind
 shared-slice-read-kind c = search needs
 
--- src/single.rt:22:9
 point-octets-requires : tie.Need-point-octets-requires
 point-octets-requires c κs = search needs
 
--- src/single.rt:28:9
 data-header-requires : tie.Need-data-header-requires
 data-header-requires c κs = search needs
 
--- src/single.rt:29:9
 put-header-requires : tie.Need-put-header-requires
 put-header-requires c κs =
     let a = c .before .before .before .before .before .before .args in
@@ -47,7 +35,6 @@ put-header-requires c κs =
     let s = single-long (now (a .m)) (a .at) (a .cause) (a .ca) in
     (omega arith, omega arith)
 
--- src/single.rt:30:5
 put-object-requires : tie.Need-put-object-requires
 put-object-requires c κs =
     let a = c .before .before .before .before .before .before .before .before .before .before .args in
@@ -57,13 +44,11 @@ put-object-requires c κs =
     let s = single-long (now (a .m)) (a .at) (a .cause) (a .ca) in
     (omega arith, e .1, omega (arith, e .0))
 
--- src/single.rt:31:10
 add-result : tie.Need-add-result
 add-result c =
     let e = c .before .before .before .before .before .before .before .before .before .point-octets .ensures .1 in
     omega arith
 
--- src/single.rt:31:5
 add-result-2 : tie.Need-add-result-2
 add-result-2 c =
     let p = c .before .before .before .before .before .before .put-header .ensures .0 in
@@ -71,11 +56,9 @@ add-result-2 c =
     let e = c .before .before .before .before .before .before .before .before .before .point-octets .ensures .1 in
     omega arith
 
--- src/single.rt:17:1
 same-length : tie.Need-same-length
 same-length c = search needs
 
--- src/single.rt:17:1
 returns : tie.Need-returns
 returns c =
     let b = c .before .before .before .before .before .before .before .before .before .before .before .before .before in
@@ -87,10 +70,11 @@ returns c =
     let s = single-long (now (a .m)) (a .at) (a .cause) (a .ca) in
     let eo : g .result ≡ length (header (dataHeader (getD (now (a .m)) (a .at) 0) 1 (a .cause) (a .ca))) = g .ensures .0 ∙ ap (λ (x : Header). length (header x)) (d .ensures) in
     let w : g .last .0 ≡ over (now (a .out)) 0 (header (dataHeader (getD (now (a .m)) (a .at) 0) 1 (a .cause) (a .ca))) = g .ensures .1 ∙ ap (λ (x : Header). over (now (a .out)) 0 (header x)) (d .ensures) in
-    let o : Octets (now (a .m)) = λ i. omega (arith, c .before .before .before .before .before .before .before .before .before .before .before .shared-slice-known .given i) in
-    (omega (arith, g .ensures .0, p .ensures .0),
-     c .before .before .put-object .ensures ∙ ap (λ (x : List ℕ). over x (g .result) (objectAt (p .result) (now (a .m)) (a .at))) w
-     ∙ single-over (now (a .m)) (now (a .out)) (a .at) (a .cause) (a .ca) (p .result) (g .result) o (omega arith) (p .ensures .0) eo (omega arith))
+    let o : Octets (now (a .m)) = λ i. omega (arith, c .before .before .before .before .before .before .before .before .before .before .before .shared-slice-known .given i) in (
+      omega (arith, g .ensures .0, p .ensures .0),
+      c .before .before .put-object .ensures ∙ ap (λ (x : List ℕ). over x (g .result) (objectAt (p .result) (now (a .m)) (a .at))) w
+          ∙ single-over (now (a .m)) (now (a .out)) (a .at) (a .cause) (a .ca) (p .result) (g .result) o (omega arith) (p .ensures .0) eo (omega arith),
+    )
 
 pub put-front-spec : {M : Type 1} → statement M
 put-front-spec =

@@ -1,13 +1,9 @@
-use borrow.Author.Needs.{needs}
-use native.Mathlib.Omega.{arith}
+-- The array is the list.
 use mathlib.Core.Path.{refl}
 use Rattle.report.specs.Selection.{counterTypes}
 use Rattle.output.proofs.types.counter_types.Statement.{statement}
 use Rattle.output.proofs.types.counter_types.Tie as tie
-use Rattle.output.proofs.types.counter_types.Reads as reads
-use Rattle.output.proofs.types.counter_types.Lts as lts
 
--- src/types.rt:16:1
 returns : tie.Need-returns
 unfolding counterTypes
 returns c = refl

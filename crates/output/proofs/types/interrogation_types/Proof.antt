@@ -1,13 +1,9 @@
-use borrow.Author.Needs.{needs}
-use native.Mathlib.Omega.{arith}
+-- The array is the list.
 use mathlib.Core.Path.{refl}
 use Rattle.report.specs.Selection.{interrogationTypes}
 use Rattle.output.proofs.types.interrogation_types.Statement.{statement}
 use Rattle.output.proofs.types.interrogation_types.Tie as tie
-use Rattle.output.proofs.types.interrogation_types.Reads as reads
-use Rattle.output.proofs.types.interrogation_types.Lts as lts
 
--- src/types.rt:6:1
 returns : tie.Need-returns
 unfolding interrogationTypes
 returns c = refl
