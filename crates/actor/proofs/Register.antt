@@ -118,12 +118,12 @@ module _ (m : List ℕ) (o : Octets m) (w : wellFormed m ≡ true) (q : Request)
         by-spot (Held at) p =
             let z = seat-law m (q .ca) i first h o w e in
             let k : known (q .ioa) (z .seat .s .points) ≡ true =
-              ap (known (q .ioa)) (sym (z .points)) ∙ held-law m first h (q .ioa) at (rw (z .points) (z .rises)) p .is-known in
+            ap (known (q .ioa)) (sym (z .points)) ∙ held-law m first h (q .ioa) at (rw (z .points) (z .rises)) p .is-known in
             simp k
         by-spot (Missing at) p =
             let z = seat-law m (q .ca) i first h o w e in
             let k : known (q .ioa) (z .seat .s .points) ≡ false =
-              ap (known (q .ioa)) (sym (z .points)) ∙ missing-law m first h (q .ioa) at (rw (z .points) (z .rises)) p .not-known in
+            ap (known (q .ioa)) (sym (z .points)) ∙ missing-law m first h (q .ioa) at (rw (z .points) (z .rises)) p .not-known in
             simp k
 
     -- the outcome, as the code puts it together
@@ -158,7 +158,7 @@ module _ (m : List ℕ) (o : Octets m) (w : wellFormed m ≡ true) (q : Request)
     -- where the point goes
     goes : isDone (seatFault q (findAt m first h (q .ioa))) ≡ true
         → Standing (tableOf m .stations) (q .ca) (pointOf q .ioa) (seat-law m (q .ca) i first h o w e .seat .s) (seat-law m (q .ca) i first h o w e .seat .found) i h
-          (offsetOf (findAt m first h (q .ioa)))
+        (offsetOf (findAt m first h (q .ioa)))
     unfolding seatFault
     goes d = by-spot (findAt m first h (q .ioa)) refl (first-done (ownFault true q) (spotFault (findAt m first h (q .ioa))) (done-is (seatFault q (findAt m first h (q .ioa))) d) .1)
       where

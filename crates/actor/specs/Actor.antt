@@ -51,5 +51,5 @@ stationShareAt m i =
       ceiling = shareAt m (64 + 48 * two m 4 + 8 * i) .ceiling;
       held = shareAt m (64 + 48 * two m 4 + 8 * i) .held;
       free = two m 4 - two m 8;
-      unmet = sumAt unmetAt m (64 + 48 * two m 4) (two m 6)
+      unmet = sumAt unmetAt m (64 + 48 * two m 4) (two m 6);
     }

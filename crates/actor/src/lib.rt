@@ -90,7 +90,14 @@ fn register_here(table: &mut [u8], q: Request, i: usize, first: usize, h: usize)
     if !room.is_done() {
         return reply_of(room);
     }
-    insert::insert(table, q.ca as usize, model::point_of(q), i, h, offset_of(spot));
+    insert::insert(
+        table,
+        q.ca as usize,
+        model::point_of(q),
+        i,
+        h,
+        offset_of(spot),
+    );
     reply_of(Outcome::Done)
 }
 

@@ -59,9 +59,11 @@ still-quiet f l s =
     by-test-good : (t : Table) → good t ≡ true → (b : Bool) → good (pick b (f t .after) t) ≡ true
     by-test-good t g true = is-good _ (s t .is-good (good-is t g))
     by-test-good t g false = g
+
     by-test-capacity : (t : Table) (b : Bool) → pick b (f t .after) t .capacity ≡ t .capacity
     by-test-capacity t true = s t .capacity
     by-test-capacity t false = refl
+
     by-test-holdings : (t : Table) → good t ≡ true → (b : Bool) → map holdingOf (pick b (f t .after) t .stations) ≡ map holdingOf (t .stations)
     by-test-holdings t g true = s t .holdings (good-is t g)
     by-test-holdings t g false = refl
@@ -139,6 +141,7 @@ update-ok t u p g w e = of-station (stationOf (u .ca) (t .stations)) refl e
         let r : rising 0 (s .points) ≡ true = station-rises t (u .ca) s g (station-found _ _ _ f) in
         let o = point-in 0 (u .ioa) (s .points) q r k in
         replace-gentle p (updated-ok u q p w (o .0) e′ .0)
+
     of-station : (o : Option Station) → stationOf (u .ca) (t .stations) ≡ o → updated u (pointIn (u .ioa) (pointsOf o)) ≡ some p → Gentle (replaceIn p)
     of-station none f e′ = let z : _≡_ {A = ℕ} 0 1 = cc in absurd (omega arith)
     of-station (some s) f e′ = of-point s f (pointIn (u .ioa) (s .points)) refl e′

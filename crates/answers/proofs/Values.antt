@@ -99,6 +99,7 @@ updated-ok u q p w o e = by-test (eqb (q .kind) (u .kind)) e
         let v4 = both _ _ (v3 .1) in
         join (o1 .0) (join (eq-eqb _ _ (length-element (u .value) (pointOctets (q .kind)) w (point-at-most (q .kind))))
         (join (v1 .0) (join (v2 .0) (join (v3 .0) (join (v4 .0) (element-zeros (u .value) (pointOctets (q .kind)) w (point-at-most (q .kind))))))))
+
     by-test : (b : Bool)
         → pick b (some (record { kind = q .kind; ioa = q .ioa; group = q .group; counter = q .counter; value = element (pointOctets (q .kind)) (u .value) })) none ≡ some p
         → (pointOk p ≡ true) × (p .ioa ≡ q .ioa)

@@ -58,7 +58,7 @@ answeredFrom f l (some t) =
     record {
       outcome = outcomeWith (f t) l;
       octets = pick (isDone (outcomeWith (f t) l)) (length (f t .answer)) 0;
-      spontaneous = pick (isDone (outcomeWith (f t) l)) (length (f t .told)) 0
+      spontaneous = pick (isDone (outcomeWith (f t) l)) (length (f t .told)) 0;
     }
 
 unfoldable pub lentFrom : (Table → Said) → Lent → Option Table → Lent
@@ -69,7 +69,7 @@ lentFrom f l (some t) =
       table = holding (l .table) t (f t .after);
       clock = f t .clock;
       answer = fronted (f t .answer) (l .answer);
-      spontaneous = fronted (f t .told) (l .spontaneous)
+      spontaneous = fronted (f t .told) (l .spontaneous);
     })
     l
 

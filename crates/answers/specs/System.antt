@@ -168,7 +168,7 @@ commandSaid limit clock m c t =
       answer = counterAnswer limit c m (chosen (choiceOf (qualifierOf m))) (t .stations);
       told = [];
       after = afterCounters t (c .ca) (qualifierOf m) (chosen (choiceOf (qualifierOf m)));
-      clock = clock
+      clock = clock;
     })
     (pick (eqb (c .kind) readType)
     (says (readAnswer c m (pointsAsked (addressesIn m headerOctets (c .count)) (pointsOf (stationOf (c .ca) (t .stations))))) t clock)

@@ -21,24 +21,20 @@ use Rattle.asdu.specs.declared.command.Reading.{Reading}
 use Rattle.asdu.specs.declared.command.Reading.the-variants.{LengthOutOfRange, TypeNotServed, ObjectsNotWhole, Parsed}
 use Rattle.asdu.proofs.Lengths.{length-reply}
 use Rattle.answers.specs.declared.Answered.{Answered}
-use Rattle.answers.specs.Said.{Said, Lent, fronted, outcomeWith, answeredFrom, lentFrom, answeredOn, lentAfter}
+use Rattle.answers.specs.Said.{Said, Lent, fronted, outcomeWith, answeredFrom, lentFrom}
 use Rattle.answers.specs.Process.{Update, Proposal, updatesAt, updatesIn, proposalOk, processCauseTaken, processFrom, toldBy, tableAfter}
 use Rattle.answers.proofs.Ends.{Ends, front-is, ends-no-table, ends-nothing, ends-refused}
-use Rattle.commands.specs.Entry.{proposalOf, lentTo, refusal, confirmationOf}
+use Rattle.commands.specs.Entry.{proposalOf, lentTo, Leaves, refusal, confirmationOf}
 
--- The four equations of the contract.
-abbrev pub Met : (Table → Said) → Lent → Answered → List ℕ → List ℕ → List ℕ → Type 0
-Met f l r table answer spontaneous =
-    (r ≡ answeredOn f l) × (table ≡ lentAfter f l .table) × (answer ≡ lentAfter f l .answer) × (spontaneous ≡ lentAfter f l .spontaneous)
-
+-- The ends of an entry are the equations of its contract.
 pub met : (f : Table → Said) (l : Lent) (r : Answered) (table answer spontaneous : List ℕ) → Ends f l r (lentTo table answer spontaneous)
-    → Met f l r table answer spontaneous
+    → Leaves f l r table answer spontaneous
 met f l r table answer spontaneous e =
     (e .answers, ap (λ (x : Lent). x .table) (e .leaves), ap (λ (x : Lent). x .answer) (e .leaves), ap (λ (x : Lent). x .spontaneous) (e .leaves))
 
 -- the same of a result that is known to be another
 pub gives : (f : Table → Said) (l : Lent) (r r′ : Answered) (table answer spontaneous : List ℕ) → r ≡ r′
-    → Met f l r′ table answer spontaneous → Met f l r table answer spontaneous
+    → Leaves f l r′ table answer spontaneous → Leaves f l r table answer spontaneous
 gives f l r r′ table answer spontaneous e h = (e ∙ h .0, h .1, h .2, h .3)
 
 -- ---- commands that tell something
@@ -107,13 +103,13 @@ module _ (table answer spontaneous : List ℕ) (negative : Bool) (kind : ℕ) (o
 
   module _ (w : wellFormed table ≡ true) where
     -- The cause is not taken: 1.
-    pub process-silent : processCauseTaken (c .cause) ≡ false → Met said lent (refusal Silent) table answer spontaneous
+    pub process-silent : processCauseTaken (c .cause) ≡ false → Leaves said lent (refusal Silent) table answer spontaneous
     unfolding processFrom
     process-silent e = met _ _ _ _ _ _ (ends-refused said lent w Silent (simp e) refl)
 
     module _ (taken : processCauseTaken (c .cause) ≡ true) where
       -- A bad proposal: 6.
-      pub process-bad : proposalOk standardLimit kind objects ≡ false → Met said lent (refusal BadProposal) table answer spontaneous
+      pub process-bad : proposalOk standardLimit kind objects ≡ false → Leaves said lent (refusal BadProposal) table answer spontaneous
       unfolding processFrom
       process-bad e = met _ _ _ _ _ _ (ends-refused said lent w BadProposal (simp (taken, e)) refl)
 
@@ -146,12 +142,12 @@ module _ (table answer spontaneous : List ℕ) (negative : Bool) (kind : ℕ) (o
         answer-length = ap (λ (x : Said). length (x .answer)) said-is ∙ length-reply c kind _ _ negative objects
 
         -- The spontaneous memory is short: 5.
-        pub process-untold : length spontaneous < length (toldBy (tableOf table) read) → Met said lent (refusal SpontaneousShort) table answer spontaneous
+        pub process-untold : length spontaneous < length (toldBy (tableOf table) read) → Leaves said lent (refusal SpontaneousShort) table answer spontaneous
         process-untold h = let e = told-length in met _ _ _ _ _ _ (ends-untold said lent w said-done (omega arith))
 
         -- The answer memory is short: 4.
         pub process-unanswered : length (toldBy (tableOf table) read) ≤ length spontaneous → length answer < 6 + length objects
-            → Met said lent (refusal AnswerShort) table answer spontaneous
+            → Leaves said lent (refusal AnswerShort) table answer spontaneous
         process-unanswered k h =
             let e = told-length in
             let f = answer-length in
@@ -163,7 +159,7 @@ module _ (table answer spontaneous : List ℕ) (negative : Bool) (kind : ℕ) (o
             → table′ ≡ holding table (tableOf table) (tableAfter (tableOf table) read)
             → answer′ ≡ over answer 0 (confirmationOf c negative kind objects)
             → spontaneous′ ≡ over spontaneous 0 (toldBy (tableOf table) read)
-            → Met said lent (record { outcome = Done; octets = n; spontaneous = k }) table′ answer′ spontaneous′
+            → Leaves said lent (record { outcome = Done; octets = n; spontaneous = k }) table′ answer′ spontaneous′
         process-done table′ answer′ spontaneous′ n k en ln ek lk et ea es =
             let e = told-length in
             let f = answer-length in
@@ -184,26 +180,26 @@ module _ (table answer spontaneous : List ℕ) (negative : Bool) (kind : ℕ) (o
 
 -- No table: 3.
 pub process-no-table : (table answer spontaneous : List ℕ) (f : Table → Said) → wellFormed table ≡ false
-    → Met f (lentTo table answer spontaneous) (refusal TableNotWellFormed) table answer spontaneous
+    → Leaves f (lentTo table answer spontaneous) (refusal TableNotWellFormed) table answer spontaneous
 process-no-table table answer spontaneous f w = met _ _ _ _ _ _ (ends-no-table f (lentTo table answer spontaneous) w)
 
 module _ (table answer spontaneous : List ℕ) (p : Proposal) (w : wellFormed table ≡ true) where
   -- No command was read: 2, 1, 2.
-  pub process-length : Met (processFrom standardLimit p LengthOutOfRange) (lentTo table answer spontaneous) (refusal Malformed) table answer spontaneous
+  pub process-length : Leaves (processFrom standardLimit p LengthOutOfRange) (lentTo table answer spontaneous) (refusal Malformed) table answer spontaneous
   unfolding processFrom
   process-length = met _ _ _ _ _ _ (ends-refused (processFrom standardLimit p LengthOutOfRange) (lentTo table answer spontaneous) w Malformed refl refl)
 
-  pub process-type : Met (processFrom standardLimit p TypeNotServed) (lentTo table answer spontaneous) (refusal Silent) table answer spontaneous
+  pub process-type : Leaves (processFrom standardLimit p TypeNotServed) (lentTo table answer spontaneous) (refusal Silent) table answer spontaneous
   unfolding processFrom
   process-type = met _ _ _ _ _ _ (ends-refused (processFrom standardLimit p TypeNotServed) (lentTo table answer spontaneous) w Silent refl refl)
 
-  pub process-objects : Met (processFrom standardLimit p ObjectsNotWhole) (lentTo table answer spontaneous) (refusal Malformed) table answer spontaneous
+  pub process-objects : Leaves (processFrom standardLimit p ObjectsNotWhole) (lentTo table answer spontaneous) (refusal Malformed) table answer spontaneous
   unfolding processFrom
   process-objects = met _ _ _ _ _ _ (ends-refused (processFrom standardLimit p ObjectsNotWhole) (lentTo table answer spontaneous) w Malformed refl refl)
 
   -- What is met of what was read is met of the ASDU.
   pub process-read : (answer′ spontaneous′ table′ : List ℕ) (r : Answered) (x y : Reading) → x ≡ y
-      → Met (processFrom standardLimit p y) (lentTo table answer spontaneous) r table′ answer′ spontaneous′
-      → Met (processFrom standardLimit p x) (lentTo table answer spontaneous) r table′ answer′ spontaneous′
+      → Leaves (processFrom standardLimit p y) (lentTo table answer spontaneous) r table′ answer′ spontaneous′
+      → Leaves (processFrom standardLimit p x) (lentTo table answer spontaneous) r table′ answer′ spontaneous′
   process-read answer′ spontaneous′ table′ r x y e h =
-      subst (λ (z : Reading). Met (processFrom standardLimit p z) (lentTo table answer spontaneous) r table′ answer′ spontaneous′) (sym e) h
+      subst (λ (z : Reading). Leaves (processFrom standardLimit p z) (lentTo table answer spontaneous) r table′ answer′ spontaneous′) (sym e) h

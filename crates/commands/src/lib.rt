@@ -21,9 +21,8 @@ ghost use Rattle.octets.specs.Over.{over};
 ghost use Rattle.table.specs.Memory.{wellFormed};
 ghost use Rattle.asdu.specs.Command.{isProcess};
 ghost use Rattle.asdu.specs.declared.command.Reading.the-variants.{Parsed};
-ghost use Rattle.answers.specs.Said.{answeredOn, lentAfter};
 ghost use Rattle.answers.specs.Process.{proposalOk, processCauseTaken, confirmationCause, processFrom, processSaid};
-ghost use Rattle.commands.specs.Entry.{proposalOf, lentTo, refusal, confirmationOf};
+ghost use Rattle.commands.specs.Entry.{proposalOf, lentTo, Leaves, refusal, confirmationOf};
 
 // The most octets of reply objects.
 const MOST_REPLY_OCTETS: usize = STANDARD_LIMIT - CONTROL_OCTETS - HEADER_OCTETS;
@@ -133,7 +132,7 @@ fn handle_process_command(
     spontaneous: &mut [u8],
 ) -> Answered
     requires { ⌜ wellFormed (now table) ≡ true ⌝ }
-    ensures { λ r. ⌜ (r ≡ answeredOn (processFrom standardLimit (proposalOf negative «reply_type» (now (reply .entry)) (now (updates .entry))) (Parsed command)) (lentTo (now (table .entry)) (now (answer .entry)) (now (spontaneous .entry)))) × (now (table .exit) ≡ lentAfter (processFrom standardLimit (proposalOf negative «reply_type» (now (reply .entry)) (now (updates .entry))) (Parsed command)) (lentTo (now (table .entry)) (now (answer .entry)) (now (spontaneous .entry))) .table) × (now (answer .exit) ≡ lentAfter (processFrom standardLimit (proposalOf negative «reply_type» (now (reply .entry)) (now (updates .entry))) (Parsed command)) (lentTo (now (table .entry)) (now (answer .entry)) (now (spontaneous .entry))) .answer) × (now (spontaneous .exit) ≡ lentAfter (processFrom standardLimit (proposalOf negative «reply_type» (now (reply .entry)) (now (updates .entry))) (Parsed command)) (lentTo (now (table .entry)) (now (answer .entry)) (now (spontaneous .entry))) .spontaneous) ⌝ }
+    ensures { λ r. ⌜ Leaves (processFrom standardLimit (proposalOf negative «reply_type» (now (reply .entry)) (now (updates .entry))) (Parsed command)) (lentTo (now (table .entry)) (now (answer .entry)) (now (spontaneous .entry))) r (now (table .exit)) (now (answer .exit)) (now (spontaneous .exit)) ⌝ }
 {
     if !is_command_cot(command.cause) {
         return refused(Outcome::Silent);
@@ -169,7 +168,7 @@ pub fn process_command(
     answer: &mut [u8],
     spontaneous: &mut [u8],
 ) -> Answered
-    ensures { λ r. ⌜ (r ≡ answeredOn (processSaid standardLimit (proposalOf negative «reply_type» (now (reply .entry)) (now (updates .entry))) (now (asdu .entry))) (lentTo (now (table .entry)) (now (answer .entry)) (now (spontaneous .entry)))) × (now (table .exit) ≡ lentAfter (processSaid standardLimit (proposalOf negative «reply_type» (now (reply .entry)) (now (updates .entry))) (now (asdu .entry))) (lentTo (now (table .entry)) (now (answer .entry)) (now (spontaneous .entry))) .table) × (now (answer .exit) ≡ lentAfter (processSaid standardLimit (proposalOf negative «reply_type» (now (reply .entry)) (now (updates .entry))) (now (asdu .entry))) (lentTo (now (table .entry)) (now (answer .entry)) (now (spontaneous .entry))) .answer) × (now (spontaneous .exit) ≡ lentAfter (processSaid standardLimit (proposalOf negative «reply_type» (now (reply .entry)) (now (updates .entry))) (now (asdu .entry))) (lentTo (now (table .entry)) (now (answer .entry)) (now (spontaneous .entry))) .spontaneous) ⌝ }
+    ensures { λ r. ⌜ Leaves (processSaid standardLimit (proposalOf negative «reply_type» (now (reply .entry)) (now (updates .entry))) (now (asdu .entry))) (lentTo (now (table .entry)) (now (answer .entry)) (now (spontaneous .entry))) r (now (table .exit)) (now (answer .exit)) (now (spontaneous .exit)) ⌝ }
 {
     if !wellformed::well_formed(table) {
         return refused(Outcome::TableNotWellFormed);

@@ -54,18 +54,18 @@ between m C D T c d ec ed h =
     let lb : length B ≡ d = length-take-le d m1 (omega arith) in
     let le : length E ≡ t = length-take-le t m2 (omega arith) in
     let split : m ≡ A ++ (B ++ (E ++ R)) =
-      sym (take-append-drop c m) ∙ ap (λ (x : List ℕ). A ++ x) (sym (take-append-drop d m1) ∙ ap (λ (x : List ℕ). B ++ x) (sym (take-append-drop t m2))) in
+    sym (take-append-drop c m) ∙ ap (λ (x : List ℕ). A ++ x) (sym (take-append-drop d m1) ∙ ap (λ (x : List ℕ). B ++ x) (sym (take-append-drop t m2))) in
     let s1 : over m c D ≡ A ++ (D ++ (E ++ R)) = ap (λ (x : List ℕ). over x c D) split ∙ over-at A B (E ++ R) D c la (lb ∙ sym ed) in
     let s2 : over (over m c D) 0 C ≡ C ++ (D ++ (E ++ R)) = ap (λ (x : List ℕ). over x 0 C) s1 ∙ over-at [] A (D ++ (E ++ R)) C 0 refl (la ∙ sym ec) in
     let cd : length (C ++ D) ≡ c + d = length-append C D ∙ ap₂ (λ (x y : ℕ). x + y) ec ed in
     let s3 : over (over (over m c D) 0 C) (c + d) T ≡ (C ++ D) ++ (T ++ R) =
-      ap (λ (x : List ℕ). over x (c + d) T) (s2 ∙ sym (append-assoc C D (E ++ R))) ∙ over-at (C ++ D) E R T (c + d) cd le in
+    ap (λ (x : List ℕ). over x (c + d) T) (s2 ∙ sym (append-assoc C D (E ++ R))) ∙ over-at (C ++ D) E R T (c + d) cd le in
     let w : length (A ++ (B ++ E)) ≡ length (C ++ (D ++ T)) =
-      length-append A (B ++ E) ∙ ap₂ (λ (x y : ℕ). x + y) (la ∙ sym ec) (length-append B E ∙ ap₂ (λ (x y : ℕ). x + y) (lb ∙ sym ed) le ∙ sym (length-append D T))
-      ∙ sym (length-append C (D ++ T)) in
+    length-append A (B ++ E) ∙ ap₂ (λ (x y : ℕ). x + y) (la ∙ sym ec) (length-append B E ∙ ap₂ (λ (x y : ℕ). x + y) (lb ∙ sym ed) le ∙ sym (length-append D T))
+    ∙ sym (length-append C (D ++ T)) in
     let s4 : over m 0 (C ++ (D ++ T)) ≡ (C ++ (D ++ T)) ++ R =
-      ap (λ (x : List ℕ). over x 0 (C ++ (D ++ T))) (split ∙ ap (λ (x : List ℕ). A ++ x) (sym (append-assoc B E R)) ∙ sym (append-assoc A (B ++ E) R))
-      ∙ over-at [] (A ++ (B ++ E)) R (C ++ (D ++ T)) 0 refl w in
+    ap (λ (x : List ℕ). over x 0 (C ++ (D ++ T))) (split ∙ ap (λ (x : List ℕ). A ++ x) (sym (append-assoc B E R)) ∙ sym (append-assoc A (B ++ E) R))
+    ∙ over-at [] (A ++ (B ++ E)) R (C ++ (D ++ T)) 0 refl w in
     s3 ∙ append-assoc C D (T ++ R) ∙ ap (λ (x : List ℕ). C ++ x) (sym (append-assoc D T R)) ∙ sym (append-assoc C (D ++ T) R) ∙ sym s4
 
 -- ---- what `put_data` answers

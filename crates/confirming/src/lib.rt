@@ -41,7 +41,13 @@ fn done(octets: usize) -> Answered
 }
 
 // One confirmation with the first object alone.
-pub fn confirm(answer: &mut [u8], command: Command, asdu: &[u8], cause: u8, negative: bool) -> Answered
+pub fn confirm(
+    answer: &mut [u8],
+    command: Command,
+    asdu: &[u8],
+    cause: u8,
+    negative: bool,
+) -> Answered
     requires { ⌜ (cause < 64) × (command .element ≤ 12) × (9 + command .element ≤ length (now asdu)) ⌝ }
     ensures { λ r. ⌜ (r ≡ sent (confirmation command (now (asdu .entry)) cause negative) (now (answer .entry))) × (now (answer .exit) ≡ left (confirmation command (now (asdu .entry)) cause negative) (now (answer .entry))) ⌝ }
 {
@@ -67,16 +73,46 @@ fn put_termination(answer: &mut [u8], at: usize, command: Command, asdu: &[u8])
     requires { ⌜ (command .element ≤ 12) × (9 + command .element ≤ length (now asdu)) × (at + (9 + command .element) ≤ length (now answer)) ⌝ }
     ensures { λ _. ⌜ now (answer .exit) ≡ over (now (answer .entry)) at (confirmation command (now (asdu .entry)) 10 false) ⌝ }
 {
-    confirmation::put_confirmation(&mut answer[at..], command, asdu, cot::ACTIVATION_TERMINATION, false);
+    confirmation::put_confirmation(
+        &mut answer[at..],
+        command,
+        asdu,
+        cot::ACTIVATION_TERMINATION,
+        false,
+    );
 }
 
 // Data between confirmation and termination: the selected ones of the n places from `base`, in the order of an answer, `every` station's or one's.
-pub fn report(answer: &mut [u8], table: &[u8], base: usize, n: usize, every: bool, s: Selection, types: &[u8], cause: u8, command: Command, asdu: &[u8]) -> Answered
+pub fn report(
+    answer: &mut [u8],
+    table: &[u8],
+    base: usize,
+    n: usize,
+    every: bool,
+    s: Selection,
+    types: &[u8],
+    cause: u8,
+    command: Command,
+    asdu: &[u8],
+) -> Answered
     requires { ⌜ (base + 48 * n ≤ length (now table)) × (n ≤ 4096) × (length (now types) ≤ 64) × Slots (now types) × (cause < 64) × (command .element ≤ 12) × (9 + command .element ≤ length (now asdu)) ⌝ }
     ensures { λ r. ⌜ (r ≡ sent (whole (now (types .entry)) cause s every (now (table .entry)) base n command (now (asdu .entry))) (now (answer .entry))) × (now (answer .exit) ≡ left (whole (now (types .entry)) cause s every (now (table .entry)) base n command (now (asdu .entry))) (now (answer .entry))) ⌝ }
 {
     let before = 9 + command.element;
-    let Written::Octets(octets) = output::data::put_data(answer, before, before, table, base, n, every, s, STANDARD_LIMIT, types, cause, command.ca) else {
+    let Written::Octets(octets) = output::data::put_data(
+        answer,
+        before,
+        before,
+        table,
+        base,
+        n,
+        every,
+        s,
+        STANDARD_LIMIT,
+        types,
+        cause,
+        command.ca,
+    ) else {
         return short();
     };
     confirmation::put_confirmation(answer, command, asdu, cot::ACTIVATION_CONFIRMATION, false);

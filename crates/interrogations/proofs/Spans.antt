@@ -89,7 +89,7 @@ module _ (m : List ℕ) (o : Octets m) (w : wellFormed m ≡ true) where
       let high = gl .0 .k-high in
       let c = d .count in
       let a : total held (tableOf m .stations) ≡ total held (d .found .before) + (held (d .s) + total held (d .found .after)) =
-        ap (total held) (d .found .split) ∙ held-at (d .found .before) (d .s) (d .found .after) in
+      ap (total held) (d .found .split) ∙ held-at (d .found .before) (d .s) (d .found .after) in
       omega arith
 
   at-seat : (ca : ℕ) → eqb ca globalAddress ≡ false → (s : Seat) → seatAt m ca ≡ s → Spans m ca (seatSpan s)

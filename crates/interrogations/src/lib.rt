@@ -59,7 +59,38 @@ pub fn span_of(table: &[u8], ca: u16) -> Span
 }
 
 // The types of a global or group interrogation.
-const INTERROGATION_TYPES: [u8; 30] = [1, 2, 3, 4, 5, 6, 7, 9, 10, 11, 12, 13, 14, 15, 17, 18, 19, 20, 21, 30, 31, 32, 33, 34, 35, 36, 37, 38, 39, 40];
+const INTERROGATION_TYPES: [u8; 30] = [
+    1,
+    2,
+    3,
+    4,
+    5,
+    6,
+    7,
+    9,
+    10,
+    11,
+    12,
+    13,
+    14,
+    15,
+    17,
+    18,
+    19,
+    20,
+    21,
+    30,
+    31,
+    32,
+    33,
+    34,
+    35,
+    36,
+    37,
+    38,
+    39,
+    40,
+];
 
 // The types of a counter interrogation.
 const COUNTER_TYPES: [u8; 2] = [15, 37];
@@ -73,12 +104,31 @@ fn deny(answer: &mut [u8], command: Command, asdu: &[u8]) -> Answered
 }
 
 // The selected points of the command's common address between confirmation and termination.
-fn report_selected(answer: &mut [u8], table: &[u8], selection: Selection, types: &[u8], cause: u8, command: Command, asdu: &[u8]) -> Answered
+fn report_selected(
+    answer: &mut [u8],
+    table: &[u8],
+    selection: Selection,
+    types: &[u8],
+    cause: u8,
+    command: Command,
+    asdu: &[u8],
+) -> Answered
     requires { ⌜ (wellFormed (now table) ≡ true) × (length (now types) ≤ 64) × Slots (now types) × (cause < 64) × (command .element ≤ 12) × (9 + command .element ≤ length (now asdu)) ⌝ }
     ensures { λ r. ⌜ (r ≡ sent (reported standardLimit command (now (asdu .entry)) (now (types .entry)) cause selection (tableOf (now (table .entry)) .stations)) (now (answer .entry))) × (now (answer .exit) ≡ left (reported standardLimit command (now (asdu .entry)) (now (types .entry)) cause selection (tableOf (now (table .entry)) .stations)) (now (answer .entry))) ⌝ }
 {
     let span = span_of(table, command.ca);
-    confirming::report(answer, table, span.base, span.n, span.every, selection, types, cause, command, asdu)
+    confirming::report(
+        answer,
+        table,
+        span.base,
+        span.n,
+        span.every,
+        selection,
+        types,
+        cause,
+        command,
+        asdu,
+    )
 }
 
 // The answer to an interrogation: qualifier 20, or 21 to 36; any other is denied.
@@ -89,7 +139,15 @@ pub fn interrogate(answer: &mut [u8], table: &[u8], command: Command, asdu: &[u8
     let types = INTERROGATION_TYPES;
     let qualifier = asdu[9];
     if qualifier == cot::INTERROGATION_GENERAL {
-        return report_selected(answer, table, Selection::Every, &types, qualifier, command, asdu);
+        return report_selected(
+            answer,
+            table,
+            Selection::Every,
+            &types,
+            qualifier,
+            command,
+            asdu,
+        );
     }
     if qualifier < 21 {
         return deny(answer, command, asdu);
@@ -97,18 +155,39 @@ pub fn interrogate(answer: &mut [u8], table: &[u8], command: Command, asdu: &[u8
     if 36 < qualifier {
         return deny(answer, command, asdu);
     }
-    report_selected(answer, table, Selection::Group(qualifier - cot::INTERROGATION_GENERAL), &types, qualifier, command, asdu)
+    report_selected(
+        answer,
+        table,
+        Selection::Group(qualifier - cot::INTERROGATION_GENERAL),
+        &types,
+        qualifier,
+        command,
+        asdu,
+    )
 }
 
 // The answer to a counter interrogation: choice 5, or 1 to 4; any other is denied. It shows the values before a reset.
-pub fn interrogate_counters(answer: &mut [u8], table: &[u8], command: Command, asdu: &[u8]) -> Answered
+pub fn interrogate_counters(
+    answer: &mut [u8],
+    table: &[u8],
+    command: Command,
+    asdu: &[u8],
+) -> Answered
     requires { ⌜ (wellFormed (now table) ≡ true) × (command .element ≤ 12) × (9 + command .element ≤ length (now asdu)) × (10 ≤ length (now asdu)) ⌝ }
     ensures { λ r. ⌜ (r ≡ sent (counterAnswer standardLimit command (now (asdu .entry)) (chosen (choiceOf (qualifierOf (now (asdu .entry))))) (tableOf (now (table .entry)) .stations)) (now (answer .entry))) × (now (answer .exit) ≡ left (counterAnswer standardLimit command (now (asdu .entry)) (chosen (choiceOf (qualifierOf (now (asdu .entry))))) (tableOf (now (table .entry)) .stations)) (now (answer .entry))) ⌝ }
 {
     let types = COUNTER_TYPES;
     let choice = asdu[9] % 64;
     if choice == 5 {
-        return report_selected(answer, table, Selection::Every, &types, cot::COUNTER_INTERROGATION_GENERAL, command, asdu);
+        return report_selected(
+            answer,
+            table,
+            Selection::Every,
+            &types,
+            cot::COUNTER_INTERROGATION_GENERAL,
+            command,
+            asdu,
+        );
     }
     if choice < 1 {
         return deny(answer, command, asdu);
@@ -116,7 +195,15 @@ pub fn interrogate_counters(answer: &mut [u8], table: &[u8], command: Command, a
     if 4 < choice {
         return deny(answer, command, asdu);
     }
-    report_selected(answer, table, Selection::CounterGroup(choice), &types, cot::COUNTER_INTERROGATION_GENERAL + choice, command, asdu)
+    report_selected(
+        answer,
+        table,
+        Selection::CounterGroup(choice),
+        &types,
+        cot::COUNTER_INTERROGATION_GENERAL + choice,
+        command,
+        asdu,
+    )
 }
 
 // Resets the selected counters of a common address.

@@ -8,7 +8,7 @@ use Rattle.answers.specs.declared.Answered.{Answered}
 use Rattle.khuvelter.specs.declared.Reply.{Reply}
 use Rattle.khuvelter.specs.declared.Share.{Share}
 
--- A number in 32 bits. Only the place of a point in a batch of 4,294,967,296 records or more does not fit.
+-- A number in 32 bits. Every number that is narrowed here arrives whole, but for a place in a batch of 4,294,967,296 points or more (proofs/Whole.antt).
 abbrev pub narrowed : ℕ → ℕ
 narrowed n = n % 4294967296
 

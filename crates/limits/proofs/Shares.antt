@@ -187,9 +187,9 @@ module _ (k : ℕ) (before : List Share) (s : Share) (after : List Share) (sound
         fits = omega arith;
         ceilings = ceilings-with before s (takenIn s) after (sound .ceilings) (omega arith);
         room =
-          ⊎-elim (λ (q : s .held < s .reservation). omega arith)
-          (λ (q : total unmetOf (before ++ (s ∷ after)) < freeOf k (before ++ (s ∷ after))). omega arith)
-          (room .some-room);
+            ⊎-elim (λ (q : s .held < s .reservation). omega arith)
+            (λ (q : total unmetOf (before ++ (s ∷ after)) < freeOf k (before ++ (s ∷ after))). omega arith)
+            (room .some-room);
       }
 
   -- Letting a point go keeps the shares sound.

@@ -4,7 +4,6 @@ use mathlib.Core.Bool.{Bool, true, false}
 use mathlib.Core.List.{List, [], _∷_}
 
 infixr 25 _&_
-
 -- both tests, the left one first
 unfoldable pub _&_ : Bool → Bool → Bool
 true & b = b

@@ -82,6 +82,7 @@ own-tests-ready t earlier i (q ∷ qs) e = by-test (λ r. own-tests-ready t (q �
         let f1 = first-done _ _ d in
         let f2 = first-done _ _ (f1 .1) in
         (ready-more (record { own = f1 .0; new = unregistered-is q _ (f2 .1) }) x r, each-cons earlier q qs (twice-is _ (f2 .0)) y)
+
     by-test : (ownTests t (q ∷ earlier) (i + 1) qs .outcome ≡ Done → Ready t qs × EachApart (q ∷ earlier) qs)
         → (b : Bool) → isDone (batchFault t earlier q) ≡ b
         → pick b (ownTests t (q ∷ earlier) (i + 1) qs) (record { outcome = batchFault t earlier q; place = i }) .outcome ≡ Done
@@ -102,7 +103,7 @@ passes-like t q r s e x p = by-test (eqb (q .ca) (r .ca)) refl x
         let c : q .ca ≡ r .ca = eqb-true _ _ b in
         let old : stationOf (r .ca) (t .stations) ≡ some s = rw (← c) e in
         let now : stationOf (r .ca) (inStation (q .ca) (withPoints (insertIn (pointOf q))) (t .stations)) ≡ some (withPoints (insertIn (pointOf q)) s) =
-          rw (← c) (changed-station (q .ca) (insertIn (pointOf q)) (t .stations) s e) in
+        rw (← c) (changed-station (q .ca) (insertIn (pointOf q)) (t .stations) s e) in
         let was : known (r .ioa) (s .points) ≡ false = sym (ap (isRegistered (r .ioa)) old) ∙ p .new in
         record {
           own = ap (λ (o : Option Station). ownFault (isPlanned o) r) now ∙ sym (ap (λ (o : Option Station). ownFault (isPlanned o) r) old) ∙ p .own;
@@ -157,13 +158,14 @@ unfolding AllTwelve roomTests requestsOf
 room-tests-good t i [] g r w e = (g, λ ca. omega arith)
 room-tests-good t i (q ∷ qs) g (ready-more p x y) w e =
     by-test (λ d f.
-      let a = passes-accepted t q (w .0) p d in
-      let ih = room-tests-good (withRequest t q) (i + 1) qs (accepted-good t q g a) (ready-after t q (a .station) qs (a .found) x y) (w .1) f in
-      (ih .0, λ ca. let h = ih .1 ca in let k = held-added t q ca (a .station) (a .found) in omega arith))
+    let a = passes-accepted t q (w .0) p d in
+    let ih = room-tests-good (withRequest t q) (i + 1) qs (accepted-good t q g a) (ready-after t q (a .station) qs (a .found) x y) (w .1) f in
+    (ih .0, λ ca. let h = ih .1 ca in let k = held-added t q ca (a .station) (a .found) in omega arith))
     (isDone (roomFault t (stationOf (q .ca) (t .stations)))) refl e
   where
     Goal : Effect → Type 0
     Goal z = Good (z .after) × ((ca : ℕ) → heldAt ca (z .after) ≡ heldAt ca t + (pick (eqb (q .ca) ca) 1 0 + requestsOf ca qs))
+
     by-test : (roomFault t (stationOf (q .ca) (t .stations)) ≡ Done → roomTests (withRequest t q) (i + 1) qs .outcome ≡ Done → Goal (roomTests (withRequest t q) (i + 1) qs))
         → (b : Bool) → isDone (roomFault t (stationOf (q .ca) (t .stations))) ≡ b
         → pick b (roomTests (withRequest t q) (i + 1) qs) (record { outcome = roomFault t (stationOf (q .ca) (t .stations)); place = i; after = t }) .outcome ≡ Done

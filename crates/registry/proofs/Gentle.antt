@@ -42,13 +42,13 @@ pub good-like : (t : Table) (ss : List Station) → Good t → map holdingOf ss 
 good-like t ss g e r =
     let k : ℕ = t .capacity in
     let h : total held ss ≡ total held (t .stations) =
-      total-is held (λ x. x .held) (λ s. refl) ss ∙ ap (total (λ (x : Holding). x .held)) e ∙ sym (total-is held (λ x. x .held) (λ s. refl) (t .stations)) in
+    total-is held (λ x. x .held) (λ s. refl) ss ∙ ap (total (λ (x : Holding). x .held)) e ∙ sym (total-is held (λ x. x .held) (λ s. refl) (t .stations)) in
     let u : total unmet ss ≡ total unmet (t .stations) =
-      total-is unmet (λ x. x .reservation - x .held) (λ s. refl) ss ∙ ap (total (λ (x : Holding). x .reservation - x .held)) e
-      ∙ sym (total-is unmet (λ x. x .reservation - x .held) (λ s. refl) (t .stations)) in
+    total-is unmet (λ x. x .reservation - x .held) (λ s. refl) ss ∙ ap (total (λ (x : Holding). x .reservation - x .held)) e
+    ∙ sym (total-is unmet (λ x. x .reservation - x .held) (λ s. refl) (t .stations)) in
     let v : total reserved ss ≡ total reserved (t .stations) =
-      total-is reserved (λ x. x .reservation) (λ s. refl) ss ∙ ap (total (λ (x : Holding). x .reservation)) e
-      ∙ sym (total-is reserved (λ x. x .reservation) (λ s. refl) (t .stations)) in
+    total-is reserved (λ x. x .reservation) (λ s. refl) ss ∙ ap (total (λ (x : Holding). x .reservation)) e
+    ∙ sym (total-is reserved (λ x. x .reservation) (λ s. refl) (t .stations)) in
     let n : length ss ≡ length (t .stations) = length-is ss ∙ ap length e ∙ sym (length-is (t .stations)) in
     let p : planOk k 1 ss ≡ true = plan-is k 1 ss ∙ ap (plan-from k 1) e ∙ sym (plan-is k 1 (t .stations)) ∙ g .plan in
     let low : 1 ≤ length (t .stations) = g .s-low in

@@ -177,8 +177,8 @@ module _ (t : Table) (g : Good t) where
           lines = sym (lines-held (next f t .stations)) ∙ ap (map line-from) e ∙ lines-held (t .stations);
         };
         tally = λ ca x d h.
-          let k : heldAt ca (next f t) ≡ heldAt ca t = sym (held-is ca (next f t .stations)) ∙ ap (held-from ca) e ∙ held-is ca (t .stations) in
-          omega arith;
+            let k : heldAt ca (next f t) ≡ heldAt ca t = sym (held-is ca (next f t .stations)) ∙ ap (held-from ca) e ∙ held-is ca (t .stations) in
+            omega arith;
       }
 
   keeps-all-out : Keeps t unregisterAll
@@ -243,8 +243,10 @@ module _ (t : Table) (g : Good t) where
     where
       Goal : Effect → Type 0
       Goal z = Good (z .after) × SamePlan t (z .after) × ((ca : ℕ) → heldAt ca (z .after) ≡ heldAt ca t + requestsOf ca qs)
+
       refusal : Effect
       refusal = record { outcome = ownTests t [] 0 qs .outcome; place = ownTests t [] 0 qs .place; after = t }
+
       by-test : (b : Bool) → isDone (ownTests t [] 0 qs .outcome) ≡ b → pick b (roomTests t 0 qs) refusal .outcome ≡ Done → Goal (pick b (roomTests t 0 qs) refusal)
       by-test true d e′ =
           let r = own-tests-ready t [] 0 qs (done-is _ d) in

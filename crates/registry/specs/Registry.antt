@@ -119,7 +119,7 @@ shareIn t (some s) =
       ceiling = s .ceiling;
       held = held s;
       free = t .capacity - total held (t .stations);
-      unmet = total unmet (t .stations)
+      unmet = total unmet (t .stations);
     }
 
 unfoldable pub shareFrom : ℕ → Option Table → StationShare

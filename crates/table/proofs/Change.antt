@@ -114,12 +114,12 @@ good-changed t ca f s w g r sound =
     let ss′ : List Station = w .before ++ (withPoints f s ∷ w .after) in
     let e : inStation ca (withPoints f) (t .stations) ≡ ss′ = stations-split t ca f s w in
     let p : planned (t .capacity) 1 ss′ ≡ true =
-      plan-with _ 1 (w .before) s (w .after) f ∙ ap (planned (t .capacity) 1) (sym (w .split)) ∙ plan-of _ _ _ (g .plan) .0 in
+    plan-with _ 1 (w .before) s (w .after) f ∙ ap (planned (t .capacity) 1) (sym (w .split)) ∙ plan-of _ _ _ (g .plan) .0 in
     let rv : total reserved ss′ ≡ total reserved (t .stations) = reserved-with (w .before) s (w .after) f ∙ ap (total reserved) (sym (w .split)) in
     let fits : total reserved (t .stations) ≤ t .capacity = shares-of _ _ _ _ (g .shares) .0 in
     let n = sound-numbers (t .capacity) 1 ss′ p (omega arith) sound in
     let len : length ss′ ≡ length (t .stations) =
-      length-append (w .before) (withPoints f s ∷ w .after) ∙ sym (length-append (w .before) (s ∷ w .after)) ∙ ap length (sym (w .split)) in
+    length-append (w .before) (withPoints f s ∷ w .after) ∙ sym (length-append (w .before) (s ∷ w .after)) ∙ ap length (sym (w .split)) in
     let low : 1 ≤ length (t .stations) = g .s-low in
     let high : length (t .stations) ≤ 64 = g .s-high in
     let few = shares-of _ _ _ _ (n .1) .1 in
@@ -193,9 +193,9 @@ good-added t ca p s g w o k a =
     let below : held s < s .ceiling = admitted-only (shareOf s) (freeOf k′ (B ++ (shareOf s ∷ A))) (total unmetOf (B ++ (shareOf s ∷ A))) a′ .below-ceiling in
     let more : takenIn (shareOf s) .held ≡ held (withPoints (insertIn p) s) = simp (lt-ltb _ _ below) (sym (insert-length p (s .points))) in
     let one : takenIn (shareOf s) ≡ shareOf (withPoints (insertIn p) s) =
-      λ j. record { held = more j; reservation = s .reservation; ceiling = s .ceiling } in
+    λ j. record { held = more j; reservation = s .reservation; ceiling = s .ceiling } in
     let whole : B ++ (takenIn (shareOf s) ∷ A) ≡ map shareOf (w .before ++ (withPoints (insertIn p) s ∷ w .after)) =
-      ap (λ (x : Share). B ++ (x ∷ A)) one ∙ sym (shares-split (w .before) (withPoints (insertIn p) s) (w .after)) in
+    ap (λ (x : Share). B ++ (x ∷ A)) one ∙ sym (shares-split (w .before) (withPoints (insertIn p) s) (w .after)) in
     good-changed t ca (insertIn p) s w g (insert-rises p 0 (s .points) (omega arith) o k (station-rises t ca s g w)) (subst (Sound k′) whole taken)
 
 -- ---- one point less
@@ -253,9 +253,9 @@ good-removed t ca ioa s g w k =
     let some-held : 0 < held s = omega arith in
     let one-less : letGo (shareOf s) .held ≡ held (withPoints (removeIn ioa) s) = simp (lt-ltb _ _ some-held) (omega arith) in
     let one : letGo (shareOf s) ≡ shareOf (withPoints (removeIn ioa) s) =
-      λ j. record { held = one-less j; reservation = s .reservation; ceiling = s .ceiling } in
+    λ j. record { held = one-less j; reservation = s .reservation; ceiling = s .ceiling } in
     let whole : B ++ (letGo (shareOf s) ∷ A) ≡ map shareOf (w .before ++ (withPoints (removeIn ioa) s ∷ w .after)) =
-      ap (λ (x : Share). B ++ (x ∷ A)) one ∙ sym (shares-split (w .before) (withPoints (removeIn ioa) s) (w .after)) in
+    ap (λ (x : Share). B ++ (x ∷ A)) one ∙ sym (shares-split (w .before) (withPoints (removeIn ioa) s) (w .after)) in
     good-changed t ca (removeIn ioa) s w g (remove-rises ioa 0 (s .points) (station-rises t ca s g w)) (subst (Sound k′) whole gone)
 
 -- ---- no point left

@@ -1,3 +1,4 @@
+pub mod Values
 pub mod Meant
 pub mod Stored
 pub mod Told

@@ -9,11 +9,9 @@ use lib.ListN.{length, getD}
 use lib.Dec.{eqb}
 use borrow.Author.Tests.{eqb-true, ne-eqb, eq-eqb}
 use Rattle.limits.specs.Test.{pick, total}
-use Rattle.limits.specs.Size.{pointOctets}
 use Rattle.octets.specs.Number.{two, Octets}
 use Rattle.model.specs.declared.Point.{Point}
 use Rattle.model.specs.Place.{pointAt}
-use Rattle.model.specs.Request.{element}
 use Rattle.table.specs.Table.{Station, held, rising}
 use Rattle.table.specs.Memory.{pointsAt, tableOf, wellFormed}
 use Rattle.table.specs.Change.{stationOf, seekIn, pointIn, known}
@@ -30,11 +28,8 @@ use Rattle.seats.proofs.Laws.{Seated, Seen, seat-law, absent-law}
 use Rattle.seats.proofs.Halving.{HeldAt, held-law, missing-law}
 use Rattle.answers.specs.Process.{Update, updated, updateOf}
 use Rattle.updates.specs.declared.Target.the-variants.{Place, Skipped}
+use Rattle.updates.specs.Values.{revalued}
 use Rattle.updates.specs.Updates.{targetOn, targetIn, targetAt}
-
--- A point with another value.
-abbrev pub revalued : Point → List ℕ → Point
-revalued p v = record { kind = p .kind; ioa = p .ioa; group = p .group; counter = p .counter; value = element (pointOctets (p .kind)) v }
 
 -- ---- bounds of what is found in a well-formed memory
 

@@ -29,7 +29,7 @@ use Rattle.table.proofs.Stations.{length-bodies}
 use Rattle.table.proofs.Cut.{places-at, held-at, image-at}
 use Rattle.table.proofs.Change.{Found, stations-split}
 use Rattle.answers.specs.Process.{replaceIn}
-use Rattle.updates.proofs.Meant.{revalued}
+use Rattle.updates.specs.Values.{revalued}
 
 -- ---- a place, cut at its element
 

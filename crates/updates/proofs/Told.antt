@@ -25,7 +25,7 @@ use Rattle.report.specs.Single.{single}
 use Rattle.report.proofs.Single.{length-single}
 use Rattle.answers.specs.Process.{Update, toldOf}
 use Rattle.updates.specs.Updates.{updateAt, singleFrom}
-use Rattle.updates.proofs.Meant.{revalued}
+use Rattle.updates.specs.Values.{revalued}
 
 -- ---- parts of a memory
 
