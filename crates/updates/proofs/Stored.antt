@@ -7,7 +7,7 @@ use mathlib.Core.Option.{some}
 use Prim.Native.Nat.{ℕ, suc, _+_, _*_, _-_, _/_, _%_, _≤_, _<_}
 use native.Mathlib.Omega.{arith}
 use lib.ListN.{length, take, drop, replicate, length-append, length-replicate, take-append-drop, drop-of-length-le}
-use lib.Seq.{length-take-le, take-all}
+use lib.Seq.{length-take-le, take-all, drop-at}
 use lib.Dec.{eqb}
 use borrow.Author.Tests.{eqb-true, eq-eqb, ne-eqb, leb-true, le-leb, lt-leb}
 use Rattle.limits.specs.Test.{pick, total}
@@ -17,14 +17,14 @@ use Rattle.limits.proofs.Sizes.{point-at-most}
 use Rattle.octets.specs.Over.{over}
 use Rattle.octets.specs.Number.{twelve, zeros}
 use Rattle.octets.proofs.Laws.{over-at}
-use Rattle.octets.proofs.At.{zeros-are}
+use Rattle.octets.proofs.At.{zeros-are, at-here}
 use Rattle.model.specs.declared.Point.{Point}
-use Rattle.model.specs.Place.{placeOf, pointOk, valid}
+use Rattle.model.specs.Place.{pointAt, placeOf, pointOk, valid}
 use Rattle.model.specs.Request.{element}
 use Rattle.model.proofs.Requests.{length-element}
 use Rattle.table.specs.Table.{Station, Table, held, rising, placesOf, bodies, eight, entries, head, image}
 use Rattle.table.specs.Change.{withPoints, changed, seekIn, pointIn}
-use Rattle.table.proofs.Points.{gets, gets-drop, length-places}
+use Rattle.table.proofs.Points.{gets, gets-drop, at-drop, place-read, length-places}
 use Rattle.table.proofs.Stations.{length-bodies}
 use Rattle.table.proofs.Cut.{places-at, held-at, image-at}
 use Rattle.table.proofs.Change.{Found, stations-split}
@@ -161,6 +161,13 @@ write-at H B P T N W Q D N′ at e f =
     let a : H ++ (B ++ ((P ++ ((T ++ (N ++ W)) ++ Q)) ++ D)) ≡ X ++ (N ++ Y) = simp append-assoc in
     ap (λ (l : List ℕ). over l at N′) a ∙ over-at X N Y N′ at lx f ∙ simp append-assoc
 
+read-at : (H B P L Q D : List ℕ) (at : ℕ) → length H + (length B + length P) ≡ at → drop at (H ++ (B ++ ((P ++ (L ++ Q)) ++ D))) ≡ L ++ (Q ++ D)
+read-at H B P L Q D at e =
+    let X : List ℕ = H ++ (B ++ P) in
+    let lx : length X ≡ at = simp length-append e in
+    let a : H ++ (B ++ ((P ++ (L ++ Q)) ++ D)) ≡ X ++ (L ++ (Q ++ D)) = simp append-assoc in
+    ap (drop at) a ∙ drop-at X (L ++ (Q ++ D)) at lx
+
 -- ---- the image
 
 module _ (k : ℕ) (before : List Station) (s : Station) (behind : List Station) (n : ℕ) (rest : List ℕ) (ioa : ℕ) (q : Point) (v : List ℕ)
@@ -220,14 +227,40 @@ module _ (k : ℕ) (before : List Station) (s : Station) (behind : List Station)
       (take size v) (at + 10) (omega arith) (omega arith)
       ∙ sym cut-new
 
--- Storing an element at a point's place makes of a table's image the image of the table with the point's new value.
+  -- the point at the place is then the one with the new value
+  stored-read : (at : ℕ) → at ≡ 64 + 48 * (total held before + seekIn ioa (s .points))
+      → pointAt (image (record { capacity = k; stations = before ++ (withPoints (replaceIn (revalued q v)) s ∷ behind) }) ++ rest) at ≡ revalued q v
+  unfolding size
+  stored-read at e =
+      let S : ℕ = length before + suc (length behind) in
+      let p : Point = revalued q v in
+      let M : List ℕ = image (record { capacity = k; stations = before ++ (withPoints (replaceIn p) s ∷ behind) }) ++ rest in
+      let Q : List ℕ = placesOf (s .ca) (w .above) in
+      let lb : length (bodies before) ≡ 48 * total held before = length-bodies before in
+      let lp : length (placesOf (s .ca) (w .below)) ≡ 48 * length (w .below) = length-places (s .ca) (w .below) in
+      let so : seekIn ioa (s .points) ≡ length (w .below) = w .sought in
+      let d : drop at M ≡ placeOf (s .ca) p ++ (Q ++ rear) =
+      ap (drop at) cut-new
+      ∙ read-at (head k S n) (bodies before) (placesOf (s .ca) (w .below)) (ten (s .ca) q ++ (take size v ++ after size)) Q rear at (omega arith)
+      ∙ ap (λ (l : List ℕ). l ++ (Q ++ rear)) (sym (new-place (s .ca) q v long)) in
+      at-drop M at
+      ∙ ap (λ (l : List ℕ). pointAt l 0) d
+      ∙ place-read (placeOf (s .ca) p ++ (Q ++ rear)) 0 (s .ca) p (length-element v (pointOctets (q .kind)) long (point-at-most (q .kind))) (at-here (placeOf (s .ca) p) (Q ++ rear))
+
+-- Storing an element at a point's place makes of a table's image the image of the table with the point's new value, and that is then the point at the place.
 pub stored-image : (t : Table) (rest : List ℕ) (ca ioa : ℕ) (s : Station) (f : Found ca (t .stations) s) (q : Point) (v : List ℕ) (at : ℕ)
     → rising 0 (s .points) ≡ true → pointIn ioa (s .points) ≡ some q → q .ioa ≡ ioa → length v ≡ 12
     → at ≡ 64 + 48 * (total held (f .before) + seekIn ioa (s .points))
-    → over (image t ++ rest) (at + 10) (take (pointOctets (q .kind)) v) ≡ image (changed t ca (replaceIn (revalued q v))) ++ rest
+    → (over (image t ++ rest) (at + 10) (take (pointOctets (q .kind)) v) ≡ image (changed t ca (replaceIn (revalued q v))) ++ rest)
+    × (pointAt (image (changed t ca (replaceIn (revalued q v))) ++ rest) at ≡ revalued q v)
 unfolding changed size
 stored-image t rest ca ioa s f q v at r e i l p =
     let K : ℕ = t .capacity in
-    (λ j. over (image (record { capacity = K; stations = f .split j }) ++ rest) (at + 10) (take (pointOctets (q .kind)) v))
-    ∙ stored-cut K (f .before) s (f .after) (total held (t .stations)) rest ioa q v (ap (total held) (sym (f .split))) (parted ioa 0 (s .points) q r e) i l at p
-    ∙ (λ j. image (record { capacity = K; stations = sym (stations-split t ca (replaceIn (revalued q v)) s f) j }) ++ rest)
+    let count = ap (total held) (sym (f .split)) in
+    let w = parted ioa 0 (s .points) q r e in (
+      (λ j. over (image (record { capacity = K; stations = f .split j }) ++ rest) (at + 10) (take (pointOctets (q .kind)) v))
+          ∙ stored-cut K (f .before) s (f .after) (total held (t .stations)) rest ioa q v count w i l at p
+          ∙ (λ j. image (record { capacity = K; stations = sym (stations-split t ca (replaceIn (revalued q v)) s f) j }) ++ rest),
+      (λ j. pointAt (image (record { capacity = K; stations = stations-split t ca (replaceIn (revalued q v)) s f j }) ++ rest) at)
+          ∙ stored-read K (f .before) s (f .after) (total held (t .stations)) rest ioa q v count w i l at p,
+    )

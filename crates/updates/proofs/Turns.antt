@@ -6,7 +6,7 @@ use mathlib.Core.Option.{Option, some}
 use Prim.Native.Nat.{ℕ, suc, _+_, _*_, _-_, _≤_, _<_}
 use native.Mathlib.Omega.{arith}
 use native.Mathlib.Nat.{zero-add}
-use lib.ListN.{length, take, drop, getD, length-append}
+use lib.ListN.{length, take, drop, getD, length-append, take-append-drop}
 use lib.Seq.{drop-append-seam}
 use Rattle.limits.specs.Test.{total}
 use Rattle.limits.specs.Size.{pointOctets}
@@ -21,14 +21,16 @@ use Rattle.table.proofs.Parse.{Good, is-good, passed, printed, holds, parsed, p
 use Rattle.octets.proofs.Log.{Log, log-start, log-step, log-room, log-end}
 use Rattle.registry.specs.Effect.{holding}
 use Rattle.asdu.specs.Cause.{spontaneous}
+use Rattle.report.specs.Single.{single}
 use Rattle.answers.specs.Process.{Update, updatesAt, updateOf, tableWith, tableAfter, toldOf, toldBy}
 use Rattle.answers.proofs.Values.{point-in}
 use Rattle.answers.proofs.Quiet.{updates-whole, update-still}
 use Rattle.updates.specs.declared.Target.the-variants.{Place, Skipped}
-use Rattle.updates.specs.Updates.{updateAt, targetAt, stored, singleFrom, toldOne, leftBy}
+use Rattle.updates.specs.Values.{revalued}
+use Rattle.updates.specs.Updates.{updateAt, targetAt, stored, toldOne, leftBy}
 use Rattle.updates.proofs.Meant.{target-place, target-skipped}
 use Rattle.updates.proofs.Stored.{stored-image}
-use Rattle.updates.proofs.Told.{element-part, told-is, length-told}
+use Rattle.updates.proofs.Told.{element-part, length-told}
 use Rattle.updates.proofs.Sizes.{octetsTold, length-told-by}
 
 -- ---- one update
@@ -60,16 +62,11 @@ module _ (m us : List ℕ) (at : ℕ) (o : Octets m) (w : wellFormed m ≡ true)
         ∙ length-told (updateAt us at) (pointAt m place) refl
         ∙ ap (λ (k : ℕ). 9 + pointOctets k) (d .is-kind)
 
-    -- What is copied out of the record is what is told.
-    pub place-told : Octets us → at + 18 ≤ length us → singleFrom (getD us (at + 5) 0) spontaneous (two us at) us (at + 2) (at + 6) ≡ toldOne m us at
-    place-told ou h =
-        let d = target-place m (updateAt us at) o w place e in
-        told-is us at ou h (pointAt m place) found-ioa (d .is-kind) ∙ sym (ap (toldOf (updateAt us at)) (d .update))
-
-    -- What is stored leaves the image of the table with the new value.
-    pub place-left : at + 18 ≤ length us → stored m place (getD us (at + 5) 0) us (at + 6) ≡ leftBy m us at
+    -- What is stored leaves the image of the table with the new value, and the point at the place is the one that is told.
+    stored-both : at + 18 ≤ length us → (stored m place (getD us (at + 5) 0) us (at + 6) ≡ leftBy m us at)
+        × (pointAt (stored m place (getD us (at + 5) 0) us (at + 6)) place ≡ revalued (pointAt m place) (updateAt us at .value))
     unfolding stored tableWith
-    place-left h =
+    stored-both h =
         let d = target-place m (updateAt us at) o w place e in
         let t : Table = tableOf m in
         let q : Point = pointAt m place in
@@ -78,9 +75,18 @@ module _ (m us : List ℕ) (at : ℕ) (o : Octets m) (w : wellFormed m ≡ true)
         let x : take (pointOctets (getD us (at + 5) 0)) (drop (at + 6) us) ≡ take (pointOctets (q .kind)) v =
         element-part us (at + 6) (pointOctets (getD us (at + 5) 0)) (omega arith) (point-at-most (getD us (at + 5) 0))
         ∙ ap (λ (k : ℕ). take (pointOctets k) v) (sym (d .is-kind)) in
-        ap₂ (λ (y z : List ℕ). over y (place + 10) z) (printed m o (passed m w)) x
-        ∙ stored-image t rest (updateAt us at .ca) (updateAt us at .ioa) (d .station) (d .found) q v place (d .rises) (d .is-point) found-ioa refl (d .place)
-        ∙ ap (λ (y : Option Point). holding m t (tableWith t (updateAt us at) y)) (sym (d .update))
+        let b = stored-image t rest (updateAt us at .ca) (updateAt us at .ioa) (d .station) (d .found) q v place (d .rises) (d .is-point) found-ioa refl (d .place) in
+        let s = ap₂ (λ (y z : List ℕ). over y (place + 10) z) (printed m o (passed m w)) x ∙ b .0 in
+        (s ∙ ap (λ (y : Option Point). holding m t (tableWith t (updateAt us at) y)) (sym (d .update)), ap (λ (y : List ℕ). pointAt y place) s ∙ b .1)
+
+    pub place-left : at + 18 ≤ length us → stored m place (getD us (at + 5) 0) us (at + 6) ≡ leftBy m us at
+    place-left h = stored-both h .0
+
+    pub place-told : at + 18 ≤ length us → single spontaneous (two us at) (pointAt (stored m place (getD us (at + 5) 0) us (at + 6)) place) ≡ toldOne m us at
+    unfolding toldOf
+    place-told h =
+        let d = target-place m (updateAt us at) o w place e in
+        ap (single spontaneous (two us at)) (stored-both h .1) ∙ sym (ap (toldOf (updateAt us at)) (d .update))
 
 -- ---- the loop that sizes
 
@@ -208,6 +214,6 @@ module _ (m₀ us : List ℕ) (n : ℕ) (s₀ m s : List ℕ) (o at left : ℕ) 
       (e .0 ∙ zero-add (length all), left-end m us at left (g .octets) (g .formed) h ∙ sym (g .leaves), e .1)
 
 -- Nothing written leaves a memory as it was.
-pub over-none : (m : List ℕ) → m ≡ over m 0 []
+pub over-none : (m : List ℕ) (o : ℕ) → m ≡ over m o []
 unfolding over
-over-none m = refl
+over-none m o = let z : o + 0 ≡ o = omega arith in sym (ap (λ (n : ℕ). take o m ++ drop n m) z ∙ take-append-drop o m)

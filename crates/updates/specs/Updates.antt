@@ -1,20 +1,18 @@
 -- ---- as the code reads: nobody need believe what follows, the laws in proofs/ tie it to `tableAfter` and `toldBy` of `answers`
 use Prim.Native.Nat.{ℕ, _+_}
-use mathlib.Core.List.{List, _++_}
+use mathlib.Core.List.{List}
 use lib.ListN.{take, drop, getD}
 use lib.Dec.{eqb}
 use Rattle.limits.specs.Test.{pick}
 use Rattle.limits.specs.Size.{pointOctets}
 use Rattle.octets.specs.Over.{over}
 use Rattle.octets.specs.Number.{two, three, twelve}
-use Rattle.asdu.specs.Header.{header}
 use Rattle.seats.specs.declared.Seat.{Seat}
 use Rattle.seats.specs.declared.Seat.the-variants.{Here, NotPlanned}
 use Rattle.seats.specs.declared.Spot.{Spot}
 use Rattle.seats.specs.declared.Spot.the-variants.{Held, Missing}
 use Rattle.seats.specs.Seats.{seatAt}
 use Rattle.seats.specs.Find.{findAt}
-use Rattle.report.specs.Report.{dataHeader}
 use Rattle.table.specs.Memory.{tableOf}
 use Rattle.registry.specs.Effect.{holding}
 use Rattle.answers.specs.Process.{Update, updateOf, tableWith, toldOf}
@@ -41,11 +39,6 @@ targetAt m u = targetIn m u (seatAt m (u .ca))
 -- the memory with an element of a type, which lies in `src` at `from`, stored at a place
 unfoldable pub stored : List ℕ → ℕ → ℕ → List ℕ → ℕ → List ℕ
 stored m place kind src from = over m (place + 10) (take (pointOctets kind) (drop from src))
-
--- an ASDU of one object, whose address lies in `src` at `address` and whose element lies at `element`
-unfoldable pub singleFrom : ℕ → ℕ → ℕ → List ℕ → ℕ → ℕ → List ℕ
-singleFrom kind cause ca src address element =
-    header (dataHeader kind 1 cause ca) ++ (take 3 (drop address src) ++ take (pointOctets kind) (drop element src))
 
 -- what the update at `at` tells, of the table in a memory
 abbrev pub toldOne : List ℕ → List ℕ → ℕ → List ℕ

@@ -1,21 +1,19 @@
 // The updates of a process command: sized first, then stored and told, one after another. From `apply_model_updates` of `commands.rs`.
 use asdu::cot;
-use asdu::header;
-use asdu::header::Header;
 use limits::size::ADDRESS_OCTETS;
 use limits::size::HEADER_OCTETS;
+use output::single;
 use seats::Seat;
 use seats::Spot;
 ghost use mathlib.Core.Path.{_≡_};
 ghost use mathlib.Core.Bool.{true};
-ghost use Prim.Native.Nat.{_+_, _*_, _≤_, _<_};
-ghost use lib.ListN.{length, take, drop};
-ghost use Rattle.limits.specs.Size.{pointOctets};
+ghost use Prim.Native.Nat.{_+_, _*_, _≤_};
+ghost use lib.ListN.{length};
 ghost use Rattle.octets.specs.Over.{over};
 ghost use Rattle.table.specs.Memory.{wellFormed, tableOf};
 ghost use Rattle.registry.specs.Effect.{holding};
 ghost use Rattle.answers.specs.Process.{updatesAt, tableAfter, toldBy};
-ghost use Rattle.updates.specs.Updates.{updateAt, targetAt, stored, singleFrom, toldOne, leftBy};
+ghost use Rattle.updates.specs.Updates.{updateAt, targetAt, stored, toldOne, leftBy};
 
 // The octets of an update in the flat form: CA 2, IOA 3, type 1, value 12.
 pub const UPDATE_OCTETS: usize = 18;
@@ -90,65 +88,19 @@ fn store(m: &mut [u8], place: usize, updates: &[u8], from: usize, kind: u8)
     octets::copy_part(updates, from, element, m, place + 10);
 }
 
-// Writes one object of data in an ASDU of its own at the front of `out`: its address lies in `src` at `address`, its element at `element`.
-pub fn put_single(
-    out: &mut [u8],
-    kind: u8,
-    cause: u8,
-    ca: u16,
-    src: &[u8],
-    address: usize,
-    element: usize,
-) -> usize
-    requires { ⌜ (cause < 64) × (address + 3 ≤ length (now src)) × (element + pointOctets kind ≤ length (now src)) × (9 + pointOctets kind ≤ length (now out)) ⌝ }
-    ensures { λ r. ⌜ (r ≡ 9 + pointOctets kind) × (now (out .exit) ≡ over (now (out .entry)) 0 (singleFrom kind cause ca (now (src .entry)) address element)) ⌝ }
-{
-    let size = limits::size::point_octets(kind);
-    let h = Header {
-        kind: kind,
-        count: 1,
-        cause: cause,
-        negative: false,
-        test: false,
-        originator: 0,
-        ca: ca,
-    };
-    header::put_header(out, h);
-    octets::copy_part(src, address, ADDRESS_OCTETS, out, HEADER_OCTETS);
-    octets::copy_part(src, element, size, out, HEADER_OCTETS + ADDRESS_OCTETS);
-    HEADER_OCTETS + ADDRESS_OCTETS + size
-}
-
-// Stores the update at `at` and tells it at the front of `out`, with its own CA and cause 3; skipped, nothing is stored or told.
-fn apply_one(m: &mut [u8], updates: &[u8], at: usize, out: &mut [u8]) -> usize
-    requires { ⌜ (wellFormed (now m) ≡ true) × (at + 18 ≤ length (now updates)) × (length (toldOne (now m) (now updates) at) ≤ length (now out)) ⌝ }
-    ensures { λ r. ⌜ (r ≡ length (toldOne (now (m .entry)) (now (updates .entry)) at)) × (now (m .exit) ≡ leftBy (now (m .entry)) (now (updates .entry)) at) × (now (out .exit) ≡ over (now (out .entry)) 0 (toldOne (now (m .entry)) (now (updates .entry)) at)) ⌝ }
+// Stores the update at `at` and tells it in `out` from `o` on, with its own CA and cause 3, and gives the place after; skipped, nothing is stored or told.
+fn apply_one(m: &mut [u8], updates: &[u8], at: usize, out: &mut [u8], o: usize) -> usize
+    requires { ⌜ (wellFormed (now m) ≡ true) × (at + 18 ≤ length (now updates)) × (o + length (toldOne (now m) (now updates) at) ≤ length (now out)) ⌝ }
+    ensures { λ r. ⌜ (r ≡ o + length (toldOne (now (m .entry)) (now (updates .entry)) at)) × (now (m .exit) ≡ leftBy (now (m .entry)) (now (updates .entry)) at) × (now (out .exit) ≡ over (now (out .entry)) o (toldOne (now (m .entry)) (now (updates .entry)) at)) ⌝ }
 {
     let target = target_of(m, updates, at);
     let Target::Place(place) = target else {
-        return 0;
+        return o;
     };
     let kind = updates[at + 5];
     let ca = octets::two_at(updates, at) as u16;
     store(m, place, updates, at + 6, kind);
-    put_single(
-        out,
-        kind,
-        cot::SPONTANEOUS_DATA,
-        ca,
-        updates,
-        at + 2,
-        at + 6,
-    )
-}
-
-// Lends what remains of `out` after `o` to the ASDU of the update at `at`, and gives the place after it.
-fn apply_next(m: &mut [u8], updates: &[u8], at: usize, out: &mut [u8], o: usize) -> usize
-    requires { ⌜ (wellFormed (now m) ≡ true) × (at + 18 ≤ length (now updates)) × (o + length (toldOne (now m) (now updates) at) ≤ length (now out)) ⌝ }
-    ensures { λ r. ⌜ (r ≡ o + length (toldOne (now (m .entry)) (now (updates .entry)) at)) × (now (m .exit) ≡ leftBy (now (m .entry)) (now (updates .entry)) at) × (now (out .exit) ≡ over (now (out .entry)) o (toldOne (now (m .entry)) (now (updates .entry)) at)) ⌝ }
-{
-    let told = apply_one(m, updates, at, &mut out[o..]);
-    o + told
+    single::put_single(out, o, cot::SPONTANEOUS_DATA, ca, m, place)
 }
 
 // Stores the first n updates in their order, and tells them at the front of `spontaneous`, which has room for all.
@@ -160,7 +112,7 @@ pub fn apply(m: &mut [u8], updates: &[u8], n: usize, spontaneous: &mut [u8]) -> 
     let mut at = 0;
     let mut left = n;
     while 0 < left {
-        o = apply_next(m, updates, at, spontaneous, o);
+        o = apply_one(m, updates, at, spontaneous, o);
         at += UPDATE_OCTETS;
         left -= 1;
     }

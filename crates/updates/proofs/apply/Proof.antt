@@ -19,8 +19,8 @@ loop-holds c =
     let o : Octets (now (a .m)) = λ j. omega (arith, c .before .before .slice-known .given j) in
     going-start (now (a .m)) (now (a .updates)) (a .n) (now (a .spontaneous)) o (c .before .before .before .pre .0) (c .before .before .before .pre .1)
 
-apply-next-requires : tie.Need-apply-next-requires Inv-loop μ-loop
-apply-next-requires c κs =
+apply-one-requires : tie.Need-apply-one-requires Inv-loop μ-loop
+apply-one-requires c κs =
     let a = c .before .before .before .before .before .before .before .args in
     let l = c .before .before .before .loop in
     let g = l .inv in
@@ -40,7 +40,7 @@ loop-again : tie.Need-loop-again Inv-loop μ-loop
 loop-again c =
     let a = c .before .before .before .before .before .before .before .before .before .before .before .before .args in
     let l = c .before .before .before .before .before .before .before .before .loop in
-    let p = c .before .before .before .before .apply-next in
+    let p = c .before .before .before .before .apply-one in
     let o : Octets (p .last .0) = λ j. omega (arith, c .before .before .slice-known3 .given j) in
     going-on (now (a .m)) (now (a .updates)) (a .n) (now (a .spontaneous)) (l .m) (l .spontaneous) (l .o) (l .at) (l .left) (l .inv)
     (p .last .0) (p .last .1 .1 .1 .0) (p .result) (omega arith) (c .before .before .before .before .before .before .before .before .before .before .before .before .pre .2) o (omega arith) (p .ensures .0) (p .ensures .1) (p .ensures .2)
@@ -64,7 +64,7 @@ apply-spec =
     Inv-loop
     μ-loop
     loop-holds
-    apply-next-requires
+    apply-one-requires
     add-at
     sub-left
     loop-less

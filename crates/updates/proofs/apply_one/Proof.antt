@@ -1,16 +1,17 @@
--- Skipped, the memories are as they were; else the element is stored at its place and the record's octets are told. Assumes nothing.
+-- Skipped, the memories are as they were; else the element is stored at its place, and the point that then stands there is told. Assumes nothing.
 use mathlib.Core.Path.{_≡_, sym, ap, _∙_}
-use mathlib.Core.List.{[]}
+use mathlib.Core.List.{List, []}
 use Prim.Native.Nat.{ℕ, _+_, _≤_}
 use native.Mathlib.Omega.{arith}
 use denote.Ref.{now}
-use lib.ListN.{length, getD}
-use Rattle.limits.proofs.Sizes.{point-at-most}
+use lib.ListN.{length}
 use Rattle.octets.specs.Over.{over}
 use Rattle.octets.specs.Number.{two, Octets}
 use Rattle.asdu.specs.Cause.{spontaneous}
-use Rattle.updates.specs.Updates.{singleFrom, toldOne}
-use Rattle.updates.proofs.Turns.{skipped-told, skipped-left, place-inside, place-length, place-told, place-left, over-none}
+use Rattle.model.specs.Place.{pointAt}
+use Rattle.report.specs.Single.{single}
+use Rattle.updates.specs.Updates.{toldOne}
+use Rattle.updates.proofs.Turns.{skipped-told, skipped-left, place-inside, place-told, place-left, over-none}
 use borrow.Author.Needs.{needs}
 use Rattle.updates.proofs.apply_one.Statement.{statement}
 use Rattle.updates.proofs.apply_one.Tie as tie
@@ -37,7 +38,8 @@ returns c =
     let o : Octets m = λ j. omega (arith, c .before .before .before .before .before .before .slice-known .given j) in
     let e = sym (c .before .before .target-of .ensures) ∙ c .enum-told .given .1 in
     let t : toldOne m us (a .at) ≡ [] = skipped-told m us (a .at) o w e in
-    (ap length (sym t), skipped-left m us (a .at) o w e, over-none out ∙ ap (over out 0) (sym t))
+    let l : length (toldOne m us (a .at)) ≡ 0 = ap length t in
+    (omega arith, skipped-left m us (a .at) o w e, over-none out (a .o) ∙ ap (over out (a .o)) (sym t))
 
 add-kind : tie.Need-add-kind
 add-kind c = search needs
@@ -63,23 +65,23 @@ store-requires c κs =
     let i = place-inside m (now (a .updates)) (a .at) o (c .before .before .before .before .before .before .before .before .before .before .before .pre .0) (g .0 .0) (sym (c .before .before .before .before .before .before .target-of .ensures) ∙ g .1) in
     (omega arith, omega arith)
 
-add-put-single : tie.Need-add-put-single
-add-put-single c = search needs
-
-add-put-single-2 : tie.Need-add-put-single-2
-add-put-single-2 c = search needs
-
 put-single-requires : tie.Need-put-single-requires
 put-single-requires c κs =
-    let a = c .before .before .before .before .before .before .before .before .before .before .before .before .before .before .before .args in
+    let a = c .before .before .before .before .before .before .before .before .before .before .before .before .before .before .before .before .args in
     let m = now (a .m) in
     let us = now (a .updates) in
-    let o : Octets m = λ j. omega (arith, c .before .before .before .before .before .before .before .before .before .before .before .before .before .before .slice-known .given j) in
-    let g = c .before .before .before .before .before .before .before .before .target .given in
-    let l = place-length m us (a .at) o (c .before .before .before .before .before .before .before .before .before .before .before .before .before .before .before .pre .0) (g .0 .0) (sym (c .before .before .before .before .before .before .before .before .before .before .target-of .ensures) ∙ g .1) in
-    let most = point-at-most (getD us (a .at + 5) 0) in
-    let r : length (toldOne m us (a .at)) ≤ length (now (a .out)) = c .before .before .before .before .before .before .before .before .before .before .before .before .before .before .before .pre .2 in
-    (omega arith, omega arith, omega arith, omega arith)
+    let o : Octets m = λ j. omega (arith, c .before .before .before .before .before .before .before .before .before .before .before .before .before .before .before .slice-known .given j) in
+    let g = c .before .before .before .before .before .before .before .before .before .target .given in
+    let e = sym (c .before .before .before .before .before .before .before .before .before .before .before .target-of .ensures) ∙ g .1 in
+    let i = place-inside m us (a .at) o (c .before .before .before .before .before .before .before .before .before .before .before .before .before .before .before .before .pre .0) (g .0 .0) e in
+    let new = c .before .before .before .before .store .last .0 in
+    let s = c .before .before .before .before .store .ensures in
+    let ca : c .before .before .before .before .before .before .two-at .result ≡ two us (a .at) = c .before .before .before .before .before .before .two-at .ensures .0 in
+    let told : single spontaneous (c .before .before .before .before .before .before .two-at .result) (pointAt new (g .0 .0)) ≡ toldOne m us (a .at) =
+    (λ j. single spontaneous (ca j) (pointAt (s j) (g .0 .0))) ∙ place-told m us (a .at) o (c .before .before .before .before .before .before .before .before .before .before .before .before .before .before .before .before .pre .0) (g .0 .0) e (c .before .before .before .before .before .before .before .before .before .before .before .before .before .before .before .before .pre .1) in
+    let l = ap length told in
+    let r : a .o + length (toldOne m us (a .at)) ≤ length (now (a .out)) = c .before .before .before .before .before .before .before .before .before .before .before .before .before .before .before .before .pre .2 in
+    (omega arith, omega arith, omega arith)
 
 same-length-2 : tie.Need-same-length-2
 same-length-2 c = search needs
@@ -89,20 +91,21 @@ same-length-3 c = search needs
 
 returns-2 : tie.Need-returns-2
 returns-2 c =
-    let a = c .before .before .before .before .before .before .before .before .before .before .before .before .before .before .before .before .before .before .args in
+    let a = c .before .before .before .before .before .before .before .before .before .before .before .before .before .before .before .before .before .before .before .args in
     let m = now (a .m) in
     let us = now (a .updates) in
-    let w = c .before .before .before .before .before .before .before .before .before .before .before .before .before .before .before .before .before .before .pre .0 in
-    let h : a .at + 18 ≤ length us = c .before .before .before .before .before .before .before .before .before .before .before .before .before .before .before .before .before .before .pre .1 in
-    let o : Octets m = λ j. omega (arith, c .before .before .before .before .before .before .before .before .before .before .before .before .before .before .before .before .before .slice-known .given j) in
-    let ou : Octets us = λ j. omega (arith, c .before .before .before .before .before .before .before .before .before .before .before .before .before .before .before .before .shared-slice-known .given j) in
-    let g = c .before .before .before .before .before .before .before .before .before .before .before .target .given in
-    let e = sym (c .before .before .before .before .before .before .before .before .before .before .before .before .before .target-of .ensures) ∙ g .1 in
+    let w = c .before .before .before .before .before .before .before .before .before .before .before .before .before .before .before .before .before .before .before .pre .0 in
+    let h : a .at + 18 ≤ length us = c .before .before .before .before .before .before .before .before .before .before .before .before .before .before .before .before .before .before .before .pre .1 in
+    let o : Octets m = λ j. omega (arith, c .before .before .before .before .before .before .before .before .before .before .before .before .before .before .before .before .before .before .slice-known .given j) in
+    let g = c .before .before .before .before .before .before .before .before .before .before .before .before .target .given in
+    let e = sym (c .before .before .before .before .before .before .before .before .before .before .before .before .before .before .target-of .ensures) ∙ g .1 in
     let p = c .before .before .put-single in
-    let l = place-length m us (a .at) o w (g .0 .0) e in
-    let ca : c .before .before .before .before .before .before .before .before .two-at .result ≡ two us (a .at) = c .before .before .before .before .before .before .before .before .two-at .ensures .0 in
-    let told = ap (λ (x : ℕ). singleFrom (getD us (a .at + 5) 0) spontaneous x us (a .at + 2) (a .at + 6)) ca ∙ place-told m us (a .at) o w (g .0 .0) e ou h in
-    (p .ensures .0 ∙ sym l, c .before .before .before .before .before .before .store .ensures ∙ place-left m us (a .at) o w (g .0 .0) e h, p .ensures .1 ∙ ap (over (now (a .out)) 0) told)
+    let new = c .before .before .before .before .before .before .before .store .last .0 in
+    let s = c .before .before .before .before .before .before .before .store .ensures in
+    let ca : c .before .before .before .before .before .before .before .before .before .two-at .result ≡ two us (a .at) = c .before .before .before .before .before .before .before .before .before .two-at .ensures .0 in
+    let told : single spontaneous (c .before .before .before .before .before .before .before .before .before .two-at .result) (pointAt new (g .0 .0)) ≡ toldOne m us (a .at) =
+    (λ j. single spontaneous (ca j) (pointAt (s j) (g .0 .0))) ∙ place-told m us (a .at) o w (g .0 .0) e h in
+    (p .ensures .0 ∙ ap (λ (x : List ℕ). a .o + length x) told, s ∙ place-left m us (a .at) o w (g .0 .0) e h, p .ensures .1 ∙ ap (over (now (a .out)) (a .o)) told)
 
 pub apply-one-spec : {M : Type 1} → statement M
 apply-one-spec =
@@ -119,8 +122,6 @@ apply-one-spec =
     cast-ca
     add-store
     store-requires
-    add-put-single
-    add-put-single-2
     put-single-requires
     same-length-2
     same-length-3
