@@ -22,6 +22,7 @@ use Rattle.answers.specs.declared.Answered.{Answered}
 use Rattle.answers.specs.Said.{Said, Lent, fits, fronted, answeredOn, lentAfter}
 use Rattle.answers.proofs.Ends.{Ends, ends-short, ends-done}
 use Rattle.confirming.specs.Sending.{nothing, given, sent, left}
+use Rattle.system_command_handler.specs.Handler.{Leaves, withClock}
 
 -- an answer was given exactly if it fits
 pub done-fits : (X m : List ℕ) → isDone (sent X m .outcome) ≡ fits X m
@@ -51,49 +52,39 @@ one-after-another m E D e le h =
       ap (λ (x : List ℕ). over x 0 (E ++ D)) (split ∙ sym (append-assoc A B R)) ∙ over-at [] (A ++ B) R (E ++ D) 0 refl w in
     s2 ∙ sym (append-assoc E D R) ∙ sym s3
 
--- What the entry gives back and leaves, part by part.
-pub record Given (f : Table → Said) (l : Lent) (r : Answered) (clock table answer : List ℕ) : Type 0 where
-  pub answered : r ≡ answeredOn f l
-  pub clock-left : clock ≡ lentAfter f l .clock
-  pub table-left : table ≡ lentAfter f l .table
-  pub answer-left : answer ≡ lentAfter f l .answer
+-- ---- how the entry ends
 
 -- The ways out of the entry, from those of any command.
-pub given-ends : (f : Table → Said) (l : Lent) (r : Answered) (l′ : Lent) → Ends f l r l′ → Given f l r (l′ .clock) (l′ .table) (l′ .answer)
-given-ends f l r l′ z =
+pub leaves-ends : (f : Table → Said) (l : Lent) (r : Answered) (l′ : Lent) (clock table answer : List ℕ) → Ends f l r l′
+    → clock ≡ l′ .clock → table ≡ l′ .table → answer ≡ l′ .answer → Leaves f l (withClock r clock) table answer
+leaves-ends f l r l′ clock table answer z ec et ea =
     record {
       answered = z .answers;
-      clock-left = ap (λ (x : Lent). x .clock) (z .leaves);
-      table-left = ap (λ (x : Lent). x .table) (z .leaves);
-      answer-left = ap (λ (x : Lent). x .answer) (z .leaves);
+      clock-left = ec ∙ ap (λ (x : Lent). x .clock) (z .leaves);
+      table-left = et ∙ ap (λ (x : Lent). x .table) (z .leaves);
+      answer-left = ea ∙ ap (λ (x : Lent). x .answer) (z .leaves);
     }
 
 module _ (f : Table → Said) (l : Lent) (w : wellFormed (l .table) ≡ true) where
-  t : Table
-  t = tableOf (l .table)
-
   -- An answer X that was written whole or not at all, the table and the clock changed only if it was.
-  pub given-sent : (X : List ℕ) → f (tableOf (l .table)) .outcome ≡ Done → f (tableOf (l .table)) .told ≡ [] → f (tableOf (l .table)) .answer ≡ X
+  pub leaves-sent : (X : List ℕ) → f (tableOf (l .table)) .outcome ≡ Done → f (tableOf (l .table)) .told ≡ [] → f (tableOf (l .table)) .answer ≡ X
       → (r : Answered) (clock table answer : List ℕ) → r ≡ sent X (l .answer) → answer ≡ left X (l .answer)
       → clock ≡ pick (fits X (l .answer)) (f (tableOf (l .table)) .clock) (l .clock)
       → table ≡ pick (fits X (l .answer)) (holding (l .table) (tableOf (l .table)) (f (tableOf (l .table)) .after)) (l .table)
-      → Given f l r clock table answer
+      → Leaves f l (withClock r clock) table answer
   unfolding sent left
-  given-sent X d q x r clock table answer er ea ec et = by-test (fits X (l .answer)) refl er ea ec et
+  leaves-sent X d q x r clock table answer er ea ec et = by-test (fits X (l .answer)) refl er ea ec et
     where
       by-test : (b : Bool) → fits X (l .answer) ≡ b → r ≡ pick b (given (length X)) (nothing AnswerShort) → answer ≡ pick b (fronted X (l .answer)) (l .answer)
           → clock ≡ pick b (f (tableOf (l .table)) .clock) (l .clock)
-          → table ≡ pick b (holding (l .table) (tableOf (l .table)) (f (tableOf (l .table)) .after)) (l .table) → Given f l r clock table answer
+          → table ≡ pick b (holding (l .table) (tableOf (l .table)) (f (tableOf (l .table)) .after)) (l .table) → Leaves f l (withClock r clock) table answer
       by-test true e er′ ea′ ec′ et′ =
           let h : length X ≤ length (l .answer) = leb-true _ _ e in
-          let z = given-ends f l _ _ (ends-done f l w (length X) _ d q (ap length (sym x)) h refl) in
-          record {
-            answered = er′ ∙ z .answered;
-            clock-left = ec′ ∙ z .clock-left;
-            table-left = et′ ∙ z .table-left;
-            answer-left = ea′ ∙ ap (λ (y : List ℕ). fronted y (l .answer)) (sym x) ∙ z .answer-left;
-          }
+          let z = ends-done f l w (length X) _ d q (ap length (sym x)) h refl in
+          let y = leaves-ends f l _ _ clock table answer z ec′ et′ (ea′ ∙ ap (λ (v : List ℕ). fronted v (l .answer)) (sym x)) in
+          record { answered = er′ ∙ y .answered; clock-left = y .clock-left; table-left = y .table-left; answer-left = y .answer-left }
       by-test false e er′ ea′ ec′ et′ =
           let h : length (l .answer) < length X = leb-false _ _ e in
-          let z = given-ends f l _ _ (ends-short f l w d q (rw x h)) in
-          record { answered = er′ ∙ z .answered; clock-left = ec′ ∙ z .clock-left; table-left = et′ ∙ z .table-left; answer-left = ea′ ∙ z .answer-left }
+          let z = ends-short f l w d q (rw x h) in
+          let y = leaves-ends f l _ _ clock table answer z ec′ et′ ea′ in
+          record { answered = er′ ∙ y .answered; clock-left = y .clock-left; table-left = y .table-left; answer-left = y .answer-left }

@@ -3,9 +3,14 @@
 use answers::Answered;
 use asdu::command::Command;
 use asdu::command::Entry;
+use asdu::command::FirstObject;
 use asdu::command::Reading;
 use asdu::confirmation;
 use asdu::cot;
+use asdu::types_id::C_CI_NA_1;
+use asdu::types_id::C_CS_NA_1;
+use asdu::types_id::C_IC_NA_1;
+use asdu::types_id::C_RD_NA_1;
 use limits::outcome::Outcome;
 use limits::size::STANDARD_LIMIT;
 use reads::Asked;
@@ -19,13 +24,15 @@ ghost use Rattle.limits.specs.Size.{standardLimit};
 ghost use Rattle.octets.specs.Over.{over};
 ghost use Rattle.table.specs.Memory.{wellFormed, tableOf};
 ghost use Rattle.registry.specs.Effect.{holding};
-ghost use Rattle.asdu.specs.Command.{readAs};
+ghost use Rattle.asdu.specs.Command.{readAs, objectAt};
+ghost use Rattle.asdu.specs.declared.command.Entry.the-variants.{SystemCommands};
+ghost use Rattle.asdu.specs.declared.command.Reading.the-variants.{Parsed};
 ghost use Rattle.answers.specs.Said.{fits, answeredOn, lentAfter};
-ghost use Rattle.answers.specs.System.{qualifierOf, chosen, choiceOf, counterAnswer, afterCounters, readAnswer, clockFrom, isSilent, systemSaid};
+ghost use Rattle.answers.specs.System.{qualifierOf, chosen, choiceOf, counterAnswer, afterCounters, readAnswer, clockFrom, causeTaken, isSilent, commandSaid, systemSaid};
 ghost use Rattle.reads.specs.Reads.{requestedAt};
 ghost use Rattle.reads.proofs.Entry.{askedOfStation};
 ghost use Rattle.confirming.specs.Sending.{nothing, sent, left};
-ghost use Rattle.system_command_handler.specs.Handler.{lentTo};
+ghost use Rattle.system_command_handler.specs.Handler.{lentTo, Leaves, isSkipped, withClock};
 
 // What the entry gives back: the number and octets, and the last master clock, seven octets and the known flag.
 pub struct SystemAnswered {
@@ -94,5 +101,113 @@ fn read(answer: &mut [u8], table: &[u8], command: Command, asdu: &[u8]) -> Answe
         outcome: Outcome::Done,
         octets: before + octets,
         spontaneous: 0,
+    }
+}
+
+// ---- the clock
+
+// The first object's time, and that it is known.
+fn clock_of(asdu: &[u8]) -> [u8; 8]
+    requires { ⌜ 16 ≤ length (now asdu) ⌝ }
+    ensures { λ r. ⌜ r ≡ clockFrom (now (asdu .entry)) ⌝ }
+{
+    [asdu[9], asdu[10], asdu[11], asdu[12], asdu[13], asdu[14], asdu[15], 1]
+}
+
+// An answer with the clock that goes back.
+fn with_clock(answered: Answered, clock: [u8; 8]) -> SystemAnswered
+    ensures { λ r. ⌜ r ≡ withClock answered clock ⌝ }
+{
+    SystemAnswered {
+        answered: answered,
+        clock: clock,
+    }
+}
+
+// ---- which commands are taken
+
+// Causes taken: 6 for an interrogation; 5 or 6 for the others.
+fn is_system_command_cot(kind: u8, cause: u8) -> bool
+    ensures { λ r. ⌜ r ≡ causeTaken kind cause ⌝ }
+{
+    if cause == cot::ACTIVATION {
+        return true;
+    }
+    if kind == C_IC_NA_1 {
+        return false;
+    }
+    cause == cot::REQUEST
+}
+
+// Is a command with a first object passed over? A cause that is not taken, or an interrogation with qualifier 0.
+fn is_skipped(command: Command, asdu: &[u8]) -> bool
+    ensures { λ r. ⌜ r ≡ isSkipped command (now (asdu .entry)) ⌝ }
+{
+    if !is_system_command_cot(command.kind, command.cause) {
+        return true;
+    }
+    if command.kind != C_IC_NA_1 {
+        return false;
+    }
+    if asdu.len() < 10 {
+        return true;
+    }
+    asdu[9] == 0
+}
+
+// ---- the entry
+
+// What a command that is taken says, by its type.
+fn answer_command(table: &mut [u8], clock: [u8; 8], asdu: &[u8], answer: &mut [u8], command: Command) -> SystemAnswered
+    requires { ⌜ (wellFormed (now table) ≡ true) × (readAs standardLimit SystemCommands (now asdu) ≡ Parsed command) × (0 < command .count) ⌝ }
+    ensures { λ r. ⌜ Leaves (commandSaid standardLimit clock (now (asdu .entry)) command) (lentTo (now (table .entry)) clock (now (answer .entry))) r (now (table .exit)) (now (answer .exit)) ⌝ }
+{
+    let kind = command.kind;
+    if kind == C_IC_NA_1 {
+        return with_clock(interrogations::interrogate(answer, table, command, asdu), clock);
+    }
+    if kind == C_CI_NA_1 {
+        return with_clock(counters(table, answer, command, asdu), clock);
+    }
+    if kind == C_RD_NA_1 {
+        return with_clock(read(answer, table, command, asdu), clock);
+    }
+    let answered = confirming::echo(answer, command, asdu, cot::ACTIVATION_CONFIRMATION, false);
+    if kind != C_CS_NA_1 {
+        return with_clock(answered, clock);
+    }
+    let outcome = answered.outcome;
+    if !outcome.is_done() {
+        return with_clock(answered, clock);
+    }
+    with_clock(answered, clock_of(asdu))
+}
+
+// A command that was read: silent without a first object, silent if it is passed over, else its answer.
+fn handle_command(table: &mut [u8], clock: [u8; 8], asdu: &[u8], answer: &mut [u8], command: Command) -> SystemAnswered
+    requires { ⌜ (wellFormed (now table) ≡ true) × (readAs standardLimit SystemCommands (now asdu) ≡ Parsed command) ⌝ }
+    ensures { λ r. ⌜ Leaves (systemSaid standardLimit clock (now (asdu .entry))) (lentTo (now (table .entry)) clock (now (answer .entry))) r (now (table .exit)) (now (answer .exit)) ⌝ }
+{
+    let FirstObject::Object(_, _) = asdu::command::first_object(command, asdu) else {
+        return with_clock(nothing(Outcome::Silent), clock);
+    };
+    if is_skipped(command, asdu) {
+        return with_clock(nothing(Outcome::Silent), clock);
+    }
+    answer_command(table, clock, asdu, answer, command)
+}
+
+// The entry for system commands: 3; then 2, 1 and 2 of the reading; then the silent rules; then the answer, or 4.
+pub fn system_command(table: &mut [u8], clock: [u8; 8], asdu: &[u8], answer: &mut [u8]) -> SystemAnswered
+    ensures { λ r. ⌜ Leaves (systemSaid standardLimit clock (now (asdu .entry))) (lentTo (now (table .entry)) clock (now (answer .entry))) r (now (table .exit)) (now (answer .exit)) ⌝ }
+{
+    if !wellformed::well_formed(table) {
+        return with_clock(nothing(Outcome::TableNotWellFormed), clock);
+    }
+    match asdu::command::parse(asdu, Entry::SystemCommands, STANDARD_LIMIT) {
+        Reading::LengthOutOfRange => with_clock(nothing(Outcome::Malformed), clock),
+        Reading::TypeNotServed => with_clock(nothing(Outcome::Silent), clock),
+        Reading::ObjectsNotWhole => with_clock(nothing(Outcome::Malformed), clock),
+        Reading::Parsed(command) => handle_command(table, clock, asdu, answer, command),
     }
 }
