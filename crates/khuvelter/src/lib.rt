@@ -12,7 +12,12 @@ ghost use Rattle.registry.specs.Registry.{registering, registeringAll, unregist
 ghost use Rattle.answers.specs.Said.{answeredOn, lentAfter};
 ghost use Rattle.answers.specs.Start.{startSaid};
 ghost use Rattle.starting.specs.Starting.{lentTo};
-ghost use Rattle.khuvelter.specs.Interface.{narrowed, plainReply, placeReply, answerReply, flatShare};
+ghost use Rattle.limits.specs.Size.{standardLimit};
+ghost use Rattle.answers.specs.System.{systemSaid};
+ghost use Rattle.answers.specs.Process.{processSaid};
+ghost use Rattle.system_command_handler.specs.Handler.{lentTo as lentToSystem};
+ghost use Rattle.commands.specs.Entry.{proposalOf, lentTo as lentToProcess};
+ghost use Rattle.khuvelter.specs.Interface.{SystemReply, ProcessReply, isSet, narrowed, plainReply, placeReply, answerReply, flatShare};
 
 // What every call gives back: document 01's number; the place of the faulty point of a refused batch, or the number of points removed by
 // `khuvelter_unregister_all`, else 0; the octets written to the answer and to the spontaneous memory, 0 unless the number is 0.
@@ -156,4 +161,30 @@ pub extern "C" fn khuvelter_share(table: &[u8], ca: u16) -> Share
     ensures { λ r. ⌜ r ≡ flatShare (shareOn ca (now (table .entry))) ⌝ }
 {
     flat_share(actor::station_share(table, ca))
+}
+
+// A system command: interrogation, counters, read, clock, tests, reset process. `clock` is seven octets of time and the known flag.
+#[no_mangle]
+pub extern "C" fn khuvelter_system_command(table: &mut [u8], clock: &mut [u8; 8], asdu: &[u8], answer: &mut [u8]) -> Reply
+    ensures { λ r. ⌜ SystemReply (systemSaid standardLimit (now (clock .entry)) (now (asdu .entry))) (lentToSystem (now (table .entry)) (now (clock .entry)) (now (answer .entry))) r (now (clock .exit)) (now (table .exit)) (now (answer .exit)) ⌝ }
+{
+    let said = system_command_handler::system_command(table, *clock, asdu, answer);
+    let back = said.clock;
+    *clock = back;
+    answer_reply(said.answered)
+}
+
+// A process command with the caller's proposal; `negative` is 0 for no, anything else for yes.
+#[no_mangle]
+pub extern "C" fn khuvelter_process_command(table: &mut [u8], asdu: &[u8], negative: u8, reply_type: u8, reply: &[u8], updates: &[u8], answer: &mut [u8], spontaneous: &mut [u8]) -> Reply
+    ensures { λ r. ⌜ ProcessReply (processSaid standardLimit (proposalOf (isSet negative) «reply_type» (now (reply .entry)) (now (updates .entry))) (now (asdu .entry))) (lentToProcess (now (table .entry)) (now (answer .entry)) (now (spontaneous .entry))) r (now (table .exit)) (now (answer .exit)) (now (spontaneous .exit)) ⌝ }
+{
+    answer_reply(commands::process_command(table, asdu, is_set(negative), reply_type, reply, updates, answer, spontaneous))
+}
+
+// A flag octet: 0 for no, anything else for yes.
+fn is_set(flag: u8) -> bool
+    ensures { λ r. ⌜ r ≡ isSet flag ⌝ }
+{
+    flag != 0
 }

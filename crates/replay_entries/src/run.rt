@@ -11,11 +11,24 @@ use replay::script::octet;
 use replay::script::past;
 
 // Makes the call at which the script stands, on just the memory that is lent.
-fn call(script: &[u8], at: usize, table: &mut [u8], answer: &mut [u8]) -> usize {
+fn call(
+    script: &[u8],
+    at: usize,
+    table: &mut [u8],
+    clock: &mut [u8; 8],
+    answer: &mut [u8],
+    spontaneous: &mut [u8],
+) -> usize {
     let letter = octet(script, at);
     let after = past(script, at, 1);
     if letter == b'c' {
         return commands::started(after, table, answer);
+    }
+    if letter == b's' {
+        return commands::system(script, after, table, clock, answer);
+    }
+    if letter == b'p' {
+        return commands::process(script, after, table, answer, spontaneous);
     }
     registration::call(script, letter, after, table)
 }
@@ -33,11 +46,11 @@ fn call_and_print(
     script: &[u8],
     at: usize,
     table: &mut [u8],
-    clock: &[u8; 8],
+    clock: &mut [u8; 8],
     answer: &mut [u8],
-    spontaneous: &[u8],
+    spontaneous: &mut [u8],
 ) -> usize {
-    let next = call(script, at, table, answer);
+    let next = call(script, at, table, clock, answer, spontaneous);
     print_checksum(table, clock, answer, spontaneous);
     next
 }
@@ -76,7 +89,7 @@ fn step(
         &mut table[z..t],
         clock,
         &mut answer[z..a],
-        &spontaneous[z..s],
+        &mut spontaneous[z..s],
     );
     moved(lent, next)
 }

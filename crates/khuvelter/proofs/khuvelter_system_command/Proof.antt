@@ -1,0 +1,37 @@
+-- What the entry gives back, in plain numbers; the memories are as the entry leaves them. Assumes nothing.
+use mathlib.Core.Path.{_≡_, sym, ap, _∙_}
+use mathlib.Core.Bool.{Bool}
+use denote.Ref.{now}
+use Rattle.limits.specs.Size.{standardLimit}
+use Rattle.answers.specs.Said.{Said, answeredOn, lentAfter}
+use Rattle.table.specs.Table.{Table}
+use Rattle.answers.specs.Process.{processSaid}
+use Rattle.commands.specs.Entry.{proposalOf, lentTo}
+use Rattle.khuvelter.specs.Interface.{answerReply, SystemReply, ProcessReply}
+use Rattle.answers.specs.Said.{answeredOn, lentAfter}
+use borrow.Author.Needs.{needs}
+use native.Mathlib.Omega.{arith}
+use Rattle.khuvelter.proofs.khuvelter_system_command.Statement.{statement}
+use Rattle.khuvelter.proofs.khuvelter_system_command.Tie as tie
+
+system-command-requires : tie.Need-system-command-requires
+system-command-requires c κs = search needs
+
+answer-reply-requires : tie.Need-answer-reply-requires
+answer-reply-requires c κs = search needs
+
+same-length : tie.Need-same-length
+same-length c = search needs
+
+same-length-2 : tie.Need-same-length-2
+same-length-2 c = search needs
+
+returns : tie.Need-returns
+returns c =
+    let e = c .before .before .before .before .before .before .system-command .ensures in
+    record { answered = c .answer-reply .ensures ∙ ap answerReply (e .answered); clock-left = e .clock-left; table-left = e .table-left; answer-left = e .answer-left }
+
+pub khuvelter-system-command-spec : {M : Type 1} → statement M
+khuvelter-system-command-spec =
+    tie.close
+    (tie.spec system-command-requires answer-reply-requires same-length same-length-2 returns)

@@ -1,0 +1,37 @@
+-- Demand 2's uniqueness: two outcomes that meet an entry's contract on the same inputs are equal, since each contract is an equation to a definition.
+-- One law for each form of contract. Assumes nothing.
+use mathlib.Core.Path.{_≡_, sym, _∙_}
+use mathlib.Core.List.{List}
+use Prim.Native.Nat.{ℕ}
+use Rattle.limits.specs.declared.outcome.Outcome.{Outcome}
+use Rattle.table.specs.Table.{Table}
+use Rattle.registry.specs.declared.Reply.{Reply}
+use Rattle.registry.specs.declared.StationShare.{StationShare}
+use Rattle.registry.specs.Effect.{Effect, replyOn, memoryOn}
+use Rattle.registry.specs.Opening.{openOutcome, openedMemory}
+use Rattle.registry.specs.Registry.{shareOn}
+use Rattle.answers.specs.declared.Answered.{Answered}
+use Rattle.answers.specs.Said.{Said, Lent, answeredOn, lentAfter}
+
+-- what is equal to one thing is equal to each other
+same : {A : Type 0} {x y z : A} → x ≡ z → y ≡ z → x ≡ y
+same p q = p ∙ sym q
+
+-- Registration of one point and of a batch, removal of one and of all: reply and table.
+pub one-answer : (f : Table → Effect) (m : List ℕ) (r r′ : Reply) (n n′ : List ℕ)
+    → (r ≡ replyOn f m) × (n ≡ memoryOn f m) → (r′ ≡ replyOn f m) × (n′ ≡ memoryOn f m) → (r ≡ r′) × (n ≡ n′)
+one-answer f m r r′ n n′ p q = (same (p .0) (q .0), same (p .1) (q .1))
+
+-- Opening: outcome and memory.
+pub one-opening : (k : ℕ) (plan m : List ℕ) (r r′ : Outcome) (n n′ : List ℕ)
+    → (r ≡ openOutcome k plan m) × (n ≡ openedMemory k plan m) → (r′ ≡ openOutcome k plan m) × (n′ ≡ openedMemory k plan m) → (r ≡ r′) × (n ≡ n′)
+one-opening k plan m r r′ n n′ p q = (same (p .0) (q .0), same (p .1) (q .1))
+
+-- The share of a station.
+pub one-share : (ca : ℕ) (m : List ℕ) (r r′ : StationShare) → r ≡ shareOn ca m → r′ ≡ shareOn ca m → r ≡ r′
+one-share ca m r r′ p q = same p q
+
+-- Commands and the start of a connection: what comes back, and every memory.
+pub one-said : (f : Table → Said) (l : Lent) (r r′ : Answered) (l₁ l₂ : Lent)
+    → (r ≡ answeredOn f l) × (l₁ ≡ lentAfter f l) → (r′ ≡ answeredOn f l) × (l₂ ≡ lentAfter f l) → (r ≡ r′) × (l₁ ≡ l₂)
+one-said f l r r′ l₁ l₂ p q = (same (p .0) (q .0), same (p .1) (q .1))
