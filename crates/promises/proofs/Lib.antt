@@ -1,2 +1,3 @@
+pub mod Interrogation
 pub mod Shares
 pub mod Unique
