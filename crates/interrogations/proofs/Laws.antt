@@ -1,4 +1,4 @@
--- What is reported for a span is what the command asks for, and each qualifier leads to its answer. Assumes nothing.
+-- What is reported of the places that a command reaches is what the command asks for, and each qualifier leads to its answer. Assumes nothing.
 use mathlib.Core.Path.{_≡_, refl, sym, ap, _∙_}
 use mathlib.Core.List.{List, [], _∷_, _++_}
 use mathlib.Core.Bool.{Bool, true, false}
@@ -27,16 +27,16 @@ use Rattle.output.specs.Data.{Slots, dataOf}
 use Rattle.registry.specs.Effect.{holding}
 use Rattle.answers.specs.System.{reported, denied, interrogated, interrogationAnswer, chosen, choiceOf, counterAnswer, counterCause, resetAt, afterCounters, actionOf}
 use Rattle.confirming.specs.Sending.{whole}
-use Rattle.interrogations.specs.Span.{spanOf}
-use Rattle.interrogations.proofs.Spans.{Spans, spans}
+use Rattle.output.specs.Reach.{reachOf}
+use Rattle.output.proofs.Reached.{reached}
 
--- ---- the report of a span
+-- ---- the report of what a command reaches
 
 pub whole-is : (m : List ℕ) → Octets m → wellFormed m ≡ true → (types : List ℕ) (cause : ℕ) (sel : Selection) (c : Command) (asdu : List ℕ)
-    → whole types cause sel (spanOf m (c .ca) .every) m (spanOf m (c .ca) .base) (spanOf m (c .ca) .n) c asdu ≡ reported standardLimit c asdu types cause sel (tableOf m .stations)
+    → whole types cause sel (reachOf m (c .ca) .every) m (reachOf m (c .ca) .base) (reachOf m (c .ca) .n) c asdu ≡ reported standardLimit c asdu types cause sel (tableOf m .stations)
 unfolding whole reported dataOf
 whole-is m o w types cause sel c asdu =
-    let z = spans m o w (c .ca) in
+    let z = reached m (c .ca) o w in
     ap (λ (ps : List Point). confirmation c asdu 7 false ++ (report standardLimit types cause (c .ca) (selected (selects sel) ps) ++ confirmation c asdu 10 false)) (z .points)
 
 -- types below 64 and none of them 0, tested

@@ -1,2 +1,2 @@
-pub mod Spans
+pub mod Resets
 pub mod Laws

@@ -3,60 +3,18 @@
 use answers::Answered;
 use asdu::command::Command;
 use asdu::cot;
+use output::reach;
 use report::Selection;
-use seats::Seat;
 ghost use mathlib.Core.Path.{_≡_};
 ghost use mathlib.Core.Bool.{true};
 ghost use Prim.Native.Nat.{_+_, _*_, _≤_, _<_};
 ghost use lib.ListN.{length};
-ghost use Rattle.octets.specs.Number.{two};
 ghost use Rattle.table.specs.Memory.{wellFormed, tableOf};
 ghost use Rattle.limits.specs.Size.{standardLimit};
 ghost use Rattle.output.specs.Data.{Slots};
 ghost use Rattle.registry.specs.Effect.{holding};
 ghost use Rattle.answers.specs.System.{reported, denied, resetAt, interrogated, qualifierOf, interrogationAnswer, chosen, choiceOf, counterAnswer, afterCounters};
 ghost use Rattle.confirming.specs.Sending.{sent, left};
-ghost use Rattle.interrogations.specs.Span.{spanOf, seatSpan};
-
-// The places that a common address speaks of: n of them from `base`, every station's or one station's.
-pub struct Span {
-    pub base: usize,
-    pub n: usize,
-    pub every: bool,
-}
-
-// The places of the station at a seat; none without one.
-fn seat_span(seat: Seat) -> Span
-    ensures { λ r. ⌜ r ≡ seatSpan seat ⌝ }
-{
-    match seat {
-        Seat::Here(_, first, h) => Span {
-            base: first,
-            n: h,
-            every: false,
-        },
-        Seat::NotPlanned => Span {
-            base: 64,
-            n: 0,
-            every: false,
-        },
-    }
-}
-
-// The places that a common address speaks of.
-pub fn span_of(table: &[u8], ca: u16) -> Span
-    requires { ⌜ (64 ≤ length (now table)) × (two (now table) 6 ≤ 64) × (64 + 48 * two (now table) 4 + 8 * two (now table) 6 ≤ length (now table)) ⌝ }
-    ensures { λ r. ⌜ r ≡ spanOf (now (table .entry)) ca ⌝ }
-{
-    if ca == asdu::header::GLOBAL_COMMON_ADDRESS {
-        return Span {
-            base: 64,
-            n: octets::two_at(table, 8),
-            every: true,
-        };
-    }
-    seat_span(seats::seat_at(table, ca as usize))
-}
 
 // The types of a global or group interrogation.
 const INTERROGATION_TYPES: [u8; 30] = [
@@ -116,13 +74,13 @@ fn report_selected(
     requires { ⌜ (wellFormed (now table) ≡ true) × (length (now types) ≤ 64) × Slots (now types) × (cause < 64) × (command .element ≤ 12) × (9 + command .element ≤ length (now asdu)) ⌝ }
     ensures { λ r. ⌜ (r ≡ sent (reported standardLimit command (now (asdu .entry)) (now (types .entry)) cause selection (tableOf (now (table .entry)) .stations)) (now (answer .entry))) × (now (answer .exit) ≡ left (reported standardLimit command (now (asdu .entry)) (now (types .entry)) cause selection (tableOf (now (table .entry)) .stations)) (now (answer .entry))) ⌝ }
 {
-    let span = span_of(table, command.ca);
+    let reached = reach::reach_of(table, command.ca);
     confirming::report(
         answer,
         table,
-        span.base,
-        span.n,
-        span.every,
+        reached.base,
+        reached.n,
+        reached.every,
         selection,
         types,
         cause,
@@ -211,8 +169,8 @@ fn reset_selected(table: &mut [u8], selection: Selection, ca: u16)
     requires { ⌜ wellFormed (now table) ≡ true ⌝ }
     ensures { λ _. ⌜ now (table .exit) ≡ holding (now (table .entry)) (tableOf (now (table .entry))) (resetAt (tableOf (now (table .entry))) ca selection) ⌝ }
 {
-    let span = span_of(table, ca);
-    resets::reset(table, span.base, span.n, selection);
+    let reached = reach::reach_of(table, ca);
+    resets::reset(table, reached.base, reached.n, selection);
 }
 
 // What a counter interrogation that was answered does to the table: actions 2 and 3 reset what was reported, 0 and 1 change nothing.

@@ -19,9 +19,8 @@ use Rattle.answers.specs.System.{reported, denied, interrogated, interrogationA
 use Rattle.answers.specs.declared.Answered.{Answered}
 use Rattle.confirming.specs.Sending.{sent, left, whole}
 use Rattle.resets.specs.Resets.{resetPlaces}
-use Rattle.interrogations.specs.declared.Span.{Span}
-use Rattle.interrogations.specs.Span.{seatSpan, spanOf}
-use Rattle.interrogations.proofs.Spans.{spans}
+use Rattle.output.specs.declared.reach.Reach.{Reach}
+use Rattle.output.proofs.Reached.{reached}
 use Rattle.interrogations.proofs.Laws.{whole-is, interrogation-slots, counter-slots, asks-all, asks-none-below, asks-none-above, asks-group, chooses-all, chooses-none-below, chooses-none-above, chooses-group, cause-all, cause-group, unchanged, no-action, none-chosen, some-chosen}
 use mathlib.Core.Option.{some, none}
 use borrow.Author.Needs.{needs}
@@ -29,14 +28,14 @@ use native.Mathlib.Omega.{arith}
 use Rattle.interrogations.proofs.report_selected.Statement.{statement}
 use Rattle.interrogations.proofs.report_selected.Tie as tie
 
-span-of-requires : tie.Need-span-of-requires
-span-of-requires c κs =
+reach-of-requires : tie.Need-reach-of-requires
+reach-of-requires c κs =
     let a = c .before .before .before .before .args in
     let t = now (a .table) in
     let m = now (a .asdu) in
     let out = now (a .answer) in
     let p = passed t (c .before .before .before .before .pre .0) .top in
-    (p .long, p .s-high, p .room)
+    (p .s-high, p .room)
 
 report-requires : tie.Need-report-requires
 report-requires c κs =
@@ -45,11 +44,11 @@ report-requires c κs =
     let m = now (a .asdu) in
     let out = now (a .answer) in
     let o : Octets t = λ k. omega (arith, c .before .before .before .before .shared-slice-known .given k) in
-    let e = c .before .span-of .ensures in
-    let eb = ap (λ (x : Span). x .base) e in
-    let en = ap (λ (x : Span). x .n) e in
-    let z = spans t o (c .before .before .before .before .before .before .pre .0) (a .command .ca) in
-    let i = z .inside in
+    let e = c .before .reach-of .ensures in
+    let eb = ap (λ (x : Reach). x .base) e in
+    let en = ap (λ (x : Reach). x .n) e in
+    let z = reached t (a .command .ca) o (c .before .before .before .before .before .before .pre .0) in
+    let i = z .lies in
     let f = z .few in
     (omega arith, omega arith, c .before .before .before .before .before .before .pre .1, c .before .before .before .before .before .before .pre .2, c .before .before .before .before .before .before .pre .3, c .before .before .before .before .before .before .pre .4, c .before .before .before .before .before .before .pre .5)
 
@@ -63,9 +62,9 @@ returns c =
     let m = now (a .asdu) in
     let out = now (a .answer) in
     let o : Octets t = λ k. omega (arith, c .before .before .before .before .before .before .before .shared-slice-known .given k) in
-    let e = c .before .before .before .before .span-of .ensures in
+    let e = c .before .before .before .before .reach-of .ensures in
     let W = (λ j. whole (now (a .types)) (a .cause) (a .selection) (e j .every) t (e j .base) (e j .n) (a .command) m) ∙ whole-is t o (c .before .before .before .before .before .before .before .before .before .pre .0) (now (a .types)) (a .cause) (a .selection) (a .command) m in
     (c .before .before .report .ensures .0 ∙ ap (λ (X : List ℕ). sent X out) W, c .before .before .report .ensures .1 ∙ ap (λ (X : List ℕ). left X out) W)
 
 pub report-selected-spec : {M : Type 1} → statement M
-report-selected-spec = tie.close (tie.spec span-of-requires report-requires same-length returns)
+report-selected-spec = tie.close (tie.spec reach-of-requires report-requires same-length returns)

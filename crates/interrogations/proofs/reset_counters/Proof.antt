@@ -19,9 +19,6 @@ use Rattle.answers.specs.System.{reported, denied, interrogated, interrogationA
 use Rattle.answers.specs.declared.Answered.{Answered}
 use Rattle.confirming.specs.Sending.{sent, left, whole}
 use Rattle.resets.specs.Resets.{resetPlaces}
-use Rattle.interrogations.specs.declared.Span.{Span}
-use Rattle.interrogations.specs.Span.{seatSpan, spanOf}
-use Rattle.interrogations.proofs.Spans.{spans}
 use Rattle.interrogations.proofs.Laws.{whole-is, interrogation-slots, counter-slots, asks-all, asks-none-below, asks-none-above, asks-group, chooses-all, chooses-none-below, chooses-none-above, chooses-group, cause-all, cause-group, unchanged, no-action, none-chosen, some-chosen}
 use mathlib.Core.Option.{some, none}
 use borrow.Author.Needs.{needs}

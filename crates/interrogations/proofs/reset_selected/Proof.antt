@@ -19,9 +19,9 @@ use Rattle.answers.specs.System.{reported, denied, interrogated, interrogationA
 use Rattle.answers.specs.declared.Answered.{Answered}
 use Rattle.confirming.specs.Sending.{sent, left, whole}
 use Rattle.resets.specs.Resets.{resetPlaces}
-use Rattle.interrogations.specs.declared.Span.{Span}
-use Rattle.interrogations.specs.Span.{seatSpan, spanOf}
-use Rattle.interrogations.proofs.Spans.{spans}
+use Rattle.output.specs.declared.reach.Reach.{Reach}
+use Rattle.output.proofs.Reached.{reached}
+use Rattle.interrogations.proofs.Resets.{reach-reset}
 use Rattle.interrogations.proofs.Laws.{whole-is, interrogation-slots, counter-slots, asks-all, asks-none-below, asks-none-above, asks-group, chooses-all, chooses-none-below, chooses-none-above, chooses-group, cause-all, cause-group, unchanged, no-action, none-chosen, some-chosen}
 use mathlib.Core.Option.{some, none}
 use borrow.Author.Needs.{needs}
@@ -29,23 +29,23 @@ use native.Mathlib.Omega.{arith}
 use Rattle.interrogations.proofs.reset_selected.Statement.{statement}
 use Rattle.interrogations.proofs.reset_selected.Tie as tie
 
-span-of-requires : tie.Need-span-of-requires
-span-of-requires c κs =
+reach-of-requires : tie.Need-reach-of-requires
+reach-of-requires c κs =
     let a = c .before .before .args in
     let t = now (a .table) in
     let p = passed t (c .before .before .pre) .top in
-    (p .long, p .s-high, p .room)
+    (p .s-high, p .room)
 
 reset-requires : tie.Need-reset-requires
 reset-requires c κs =
     let a = c .before .before .before .before .args in
     let t = now (a .table) in
     let o : Octets t = λ k. omega (arith, c .before .before .before .slice-known .given k) in
-    let e = c .before .span-of .ensures in
-    let eb = ap (λ (x : Span). x .base) e in
-    let en = ap (λ (x : Span). x .n) e in
-    let z = spans t o (c .before .before .before .before .pre) (a .ca) in
-    let i = z .inside in
+    let e = c .before .reach-of .ensures in
+    let eb = ap (λ (x : Reach). x .base) e in
+    let en = ap (λ (x : Reach). x .n) e in
+    let z = reached t (a .ca) o (c .before .before .before .before .pre) in
+    let i = z .lies in
     omega arith
 
 same-length : tie.Need-same-length
@@ -56,8 +56,8 @@ returns c =
     let a = c .before .before .before .before .before .before .before .args in
     let t = now (a .table) in
     let o : Octets t = λ k. omega (arith, c .before .before .before .before .before .before .slice-known .given k) in
-    let e = c .before .before .before .before .span-of .ensures in
-    c .before .before .reset .ensures ∙ (λ j. resetPlaces (a .selection) t (e j .base) (e j .n)) ∙ spans t o (c .before .before .before .before .before .before .before .pre) (a .ca) .reset (a .selection)
+    let e = c .before .before .before .before .reach-of .ensures in
+    c .before .before .reset .ensures ∙ (λ j. resetPlaces (a .selection) t (e j .base) (e j .n)) ∙ reach-reset t o (c .before .before .before .before .before .before .before .pre) (a .ca) (a .selection)
 
 pub reset-selected-spec : {M : Type 1} → statement M
-reset-selected-spec = tie.close (tie.spec span-of-requires reset-requires same-length returns)
+reset-selected-spec = tie.close (tie.spec reach-of-requires reset-requires same-length returns)
