@@ -26,23 +26,7 @@ fn number_at(plan: &[u16], at: usize) -> usize
     wide(plan[at])
 }
 
-// Are a station's numbers valid, its CA being at least `low`? Nothing is held.
-fn numbers_ok(k: usize, low: usize, ca: usize, r: usize, c: usize) -> bool
-    ensures { λ ok. ⌜ ok ≡ numbersOk k low ca r c 0 ⌝ }
-{
-    if ca < low {
-        return false;
-    }
-    if 65534 < ca {
-        return false;
-    }
-    if c < r {
-        return false;
-    }
-    c <= k
-}
-
-// The same of the station whose three numbers start at `at`.
+// Are the numbers of the station whose three start at `at` valid, its CA being at least `low`? Nothing is held.
 fn station_ok(plan: &[u16], at: usize, k: usize, low: usize) -> bool
     requires { ⌜ at + 3 ≤ length (now plan) ⌝ }
     ensures { λ ok. ⌜ ok ≡ numbersOk k low (getD (now (plan .entry)) at 0) (getD (now (plan .entry)) (at + 1) 0) (getD (now (plan .entry)) (at + 2) 0) 0 ⌝ }
@@ -50,7 +34,7 @@ fn station_ok(plan: &[u16], at: usize, k: usize, low: usize) -> bool
     let ca = number_at(plan, at);
     let r = number_at(plan, at + 1);
     let c = number_at(plan, at + 2);
-    numbers_ok(k, low, ca, r, c)
+    wellformed::numbers_ok(k, low, ca, r, c, 0)
 }
 
 // Are the numbers of all n stations valid, CA strictly ascending?

@@ -1,8 +1,25 @@
-// What a report is: which points a command asks for, how their objects are packed into ASDUs, and in which order. Definitions and laws; the octets are written by the crates above.
+// What a report is: which points a command asks for, how their objects are packed into ASDUs, and in which order. The octets are written by the crates above.
+ghost use mathlib.Core.Path.{_≡_};
+ghost use Prim.Native.Nat.{_+_, _≤_};
+ghost use lib.ListN.{length};
+ghost use Rattle.model.specs.Place.{pointAt};
+ghost use Rattle.report.specs.Selection.{selects};
 
 // The points that a command asks for: every one (global interrogation, counters general), those of an interrogation group 1 to 16, or those of a counter group 1 to 4.
 pub enum Selection {
     Every,
     Group(u8),
     CounterGroup(u8),
+}
+
+// Does the selection take the point of the place at `at`?
+pub fn selects_at(m: &[u8], at: usize, s: Selection) -> bool
+    requires { ⌜ at + 48 ≤ length (now m) ⌝ }
+    ensures { λ r. ⌜ r ≡ selects s (pointAt (now (m .entry)) at) ⌝ }
+{
+    match s {
+        Selection::Every => true,
+        Selection::Group(g) => octets::two_at(m, at + 6) == octets::wide(g),
+        Selection::CounterGroup(g) => m[at + 8] == g,
+    }
 }

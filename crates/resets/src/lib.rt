@@ -5,8 +5,7 @@ use report::Selection;
 ghost use mathlib.Core.Path.{_≡_};
 ghost use Prim.Native.Nat.{_+_, _*_, _≤_};
 ghost use lib.ListN.{length};
-ghost use Rattle.model.specs.Place.{isCounter, pointAt};
-ghost use Rattle.report.specs.Selection.{selects};
+ghost use Rattle.model.specs.Place.{isCounter};
 ghost use Rattle.resets.specs.Resets.{takesAt, resetPlace, resetPlaces};
 
 // Is a type a counter's: integrated totals, without or with a time?
@@ -19,18 +18,6 @@ fn is_counter(kind: u8) -> bool
     kind == M_IT_TB_1
 }
 
-// Does the selection take the point of the place at `at`?
-fn selects_at(m: &[u8], at: usize, selection: Selection) -> bool
-    requires { ⌜ at + 48 ≤ length (now m) ⌝ }
-    ensures { λ r. ⌜ r ≡ selects selection (pointAt (now (m .entry)) at) ⌝ }
-{
-    match selection {
-        Selection::Every => true,
-        Selection::Group(g) => octets::two_at(m, at + 6) == octets::wide(g),
-        Selection::CounterGroup(g) => m[at + 8] == g,
-    }
-}
-
 // Is there a counter at the place, and does the selection take it?
 fn takes_at(m: &[u8], at: usize, selection: Selection) -> bool
     requires { ⌜ at + 48 ≤ length (now m) ⌝ }
@@ -39,7 +26,7 @@ fn takes_at(m: &[u8], at: usize, selection: Selection) -> bool
     if !is_counter(m[at]) {
         return false;
     }
-    selects_at(m, at, selection)
+    report::selects_at(m, at, selection)
 }
 
 // Sets the reading of the place at `at` to 0, the first four octets of its value, where it is a counter that the selection takes; the rest stays.
