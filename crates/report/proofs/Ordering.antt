@@ -70,38 +70,38 @@ unfolding selected among _&_
 counted-cons f k ks n [] = refl
 counted-cons f k ks n (p ∷ ps) = go (eqb (p .kind) k) refl (f p) (counted-cons f k ks n ps)
   where
-    S : List Point
-    S = selected (λ (q : Point). eqb (q .kind) k & f q) ps
+    ofFirst : List Point
+    ofFirst = selected (λ (q : Point). eqb (q .kind) k & f q) ps
 
-    T : List Point
-    T = selected (λ (q : Point). among ks (q .kind) & f q) ps
+    ofOthers : List Point
+    ofOthers = selected (λ (q : Point). among ks (q .kind) & f q) ps
 
-    W : List Point
-    W = selected (λ (q : Point). among (k ∷ ks) (q .kind) & f q) ps
+    ofAll : List Point
+    ofAll = selected (λ (q : Point). among (k ∷ ks) (q .kind) & f q) ps
 
     swap : (b : Bool) → eqb (p .kind) k ≡ b → eqb k (p .kind) ≡ b
     swap true e = eq-eqb k (p .kind) (sym (eqb-true (p .kind) k e))
     swap false e = ne-eqb k (p .kind) (λ q. eqb-false (p .kind) k e (sym q))
 
-    two : (a b : Bool) → length S + length T ≡ length W
-        → length S + length (pick (a & b) (p ∷ T) T) ≡ length (pick (a & b) (p ∷ W) W)
+    two : (a b : Bool) → length ofFirst + length ofOthers ≡ length ofAll
+        → length ofFirst + length (pick (a & b) (p ∷ ofOthers) ofOthers) ≡ length (pick (a & b) (p ∷ ofAll) ofAll)
     two true true h = omega arith
     two true false h = h
     two false b h = h
 
-    go : (a : Bool) → eqb (p .kind) k ≡ a → (b : Bool) → length S + length T ≡ length W
-        → length (pick (a & b) (p ∷ S) S) + length (pick (among ks (p .kind) & b) (p ∷ T) T) ≡ length (pick (pick (eqb k (p .kind)) true (among ks (p .kind)) & b) (p ∷ W) W)
+    go : (a : Bool) → eqb (p .kind) k ≡ a → (b : Bool) → length ofFirst + length ofOthers ≡ length ofAll
+        → length (pick (a & b) (p ∷ ofFirst) ofFirst) + length (pick (among ks (p .kind) & b) (p ∷ ofOthers) ofOthers) ≡ length (pick (pick (eqb k (p .kind)) true (among ks (p .kind)) & b) (p ∷ ofAll) ofAll)
     go true e b h =
         let z : among ks (p .kind) ≡ false = ap (among ks) (eqb-true (p .kind) k e) ∙ n in
         let s : eqb k (p .kind) ≡ true = swap true e in
-        ap₂ (λ (x y : Bool). length (pick b (p ∷ S) S) + length (pick (x & b) (p ∷ T) T)) z s ∙ one b h ∙ ap (λ (x : Bool). length (pick (pick x true (among ks (p .kind)) & b) (p ∷ W) W)) (sym s)
+        ap₂ (λ (x y : Bool). length (pick b (p ∷ ofFirst) ofFirst) + length (pick (x & b) (p ∷ ofOthers) ofOthers)) z s ∙ one b h ∙ ap (λ (x : Bool). length (pick (pick x true (among ks (p .kind)) & b) (p ∷ ofAll) ofAll)) (sym s)
       where
-        one : (c : Bool) → length S + length T ≡ length W → length (pick c (p ∷ S) S) + length T ≡ length (pick c (p ∷ W) W)
+        one : (c : Bool) → length ofFirst + length ofOthers ≡ length ofAll → length (pick c (p ∷ ofFirst) ofFirst) + length ofOthers ≡ length (pick c (p ∷ ofAll) ofAll)
         one true g = omega arith
         one false g = g
     go false e b h =
         let s : eqb k (p .kind) ≡ false = swap false e in
-        two (among ks (p .kind)) b h ∙ ap (λ (x : Bool). length (pick (pick x true (among ks (p .kind)) & b) (p ∷ W) W)) (sym s)
+        two (among ks (p .kind)) b h ∙ ap (λ (x : Bool). length (pick (pick x true (among ks (p .kind)) & b) (p ∷ ofAll) ofAll)) (sym s)
 
 -- no type, no point
 none-counted : (f : Point → Bool) (ps : List Point) → counted (λ p. among [] (p .kind) & f p) ps ≡ 0

@@ -14,7 +14,7 @@ use Rattle.limits.specs.Size.{pointOctets, mostObjects, asdusOf, runOctets}
 use Rattle.limits.proofs.Sizes.{point-at-most, one-fits, asdu-fits}
 use Rattle.asdu.specs.Header.{object}
 use Rattle.asdu.proofs.Laws.{length-asdu}
-use Rattle.asdu.proofs.Laws.{length-object as length-any}
+use Rattle.asdu.proofs.Laws.{length-object as object-octets}
 use Rattle.model.specs.declared.Point.{Point}
 use Rattle.report.specs.Packing.{joined, flat, chunks, Full, Each}
 use Rattle.report.specs.Report.{Piece, dataHeader, objectOf, ofKind, ordered, octetsOf, pieces, run, asdus, report}
@@ -33,7 +33,7 @@ pub length-object : (p : Point) → Whole p → Sized (p .kind) (objectOf p)
 unfolding objectOf
 length-object p w =
     let l : length (object (p .ioa) (take (pointOctets (p .kind)) (p .value))) ≡ 3 + length (take (pointOctets (p .kind)) (p .value)) =
-    length-any (p .ioa) (take (pointOctets (p .kind)) (p .value)) in
+    object-octets (p .ioa) (take (pointOctets (p .kind)) (p .value)) in
     let t : length (take (pointOctets (p .kind)) (p .value)) ≡ pointOctets (p .kind) =
     length-take-le (pointOctets (p .kind)) (p .value) (omega (arith, point-at-most (p .kind))) in
     omega arith
