@@ -1,0 +1,118 @@
+//! Holds the proved library against the original: `against random CALLS SEED`, `against faults`.
+
+mod compare;
+mod history;
+mod image;
+mod oracle;
+mod ours;
+mod random;
+mod rules;
+mod shrink;
+
+use std::process::ExitCode;
+
+use compare::{Counts, Fault, run};
+use history::{Call, History};
+use random::Draw;
+
+fn print(history: &History, why: &str) {
+    println!("a disagreement; the smallest input found (octets and numbers of calls in hex):");
+    println!("  K {}, plan {:?}", history.capacity, history.plan);
+    for call in &history.calls {
+        println!("  {call:02x?}");
+    }
+    println!("  {why}");
+}
+
+/// Runs histories until so many calls were made; gives what was counted, or the first disagreement.
+fn histories(calls: u64, seed: u64, fault: Option<Fault>) -> Result<(Counts, u64), (History, String)> {
+    let mut counts = Counts::new();
+    let (mut made, mut number) = (0, 0);
+    while made < calls {
+        let mut draw = Draw::new(seed.wrapping_mul(1_000_003).wrapping_add(number), false);
+        let length = 20 + draw.random.below(300);
+        let history = draw.history(length);
+        run(&history, 10, fault, &mut counts).map_err(|(at, _)| shrink::shrink(&history, at, fault))?;
+        made += length as u64;
+        number += 1;
+    }
+    Ok((counts, number))
+}
+
+fn random(calls: u64, seed: u64) -> ExitCode {
+    match histories(calls, seed, None) {
+        Ok((counts, histories)) => {
+            for (kind, numbers) in &counts {
+                println!("{kind:28} {}", numbers.iter().map(|(number, times)| format!("{number}: {times}")).collect::<Vec<_>>().join(", "));
+            }
+            let made: u64 = counts.values().flat_map(|numbers| numbers.values()).sum();
+            println!("{made} calls in {histories} histories from seed {seed}: the proved library and the original agree");
+            ExitCode::SUCCESS
+        }
+        Err((history, why)) => {
+            print(&history, &why);
+            ExitCode::FAILURE
+        }
+    }
+}
+
+/// Faults laid into our side's answers; each must be found.
+const FAULTS: [(&str, Fault); 5] = [
+    ("a negative confirmation loses its bit", |call, ours, reply| {
+        if let (Call::System { .. }, true) = (call, reply.octets >= 6) {
+            ours.answer[2] &= !0x40;
+        }
+    }),
+    ("the last octet of a report of two ASDUs is one more", |call, ours, reply| {
+        if let (Call::System { asdu, .. }, true) = (call, reply.octets > 300) {
+            if asdu[0] == 100 {
+                ours.answer[reply.octets as usize - 11] ^= 1;
+            }
+        }
+    }),
+    ("a reset keeps the counters", |call, ours, reply| {
+        if let (Call::System { asdu, .. }, 0) = (call, reply.number) {
+            if asdu[0] == 101 && ours.table[64] == 15 {
+                ours.table[64 + 10] |= 1;
+            }
+        }
+    }),
+    ("a spontaneous ASDU is said to be longer", |call, _, reply| {
+        if let (Call::Process { .. }, true) = (call, reply.spontaneous > 0) {
+            reply.spontaneous += 1;
+        }
+    }),
+    ("a removed point stays in its group", |call, ours, reply| {
+        if let (Call::Unregister { .. }, 0, true) = (call, reply.number, ours.table[64] != 0) {
+            ours.table[64 + 6] ^= 1;
+        }
+    }),
+];
+
+/// Sees that each fault is found, and prints the smallest input.
+fn faults() -> ExitCode {
+    for (name, fault) in FAULTS {
+        println!("laid in: {name}");
+        match histories(100_000, 1, Some(fault)) {
+            Ok(_) => {
+                println!("NOT FOUND");
+                return ExitCode::FAILURE;
+            }
+            Err((history, why)) => print(&history, &why),
+        }
+    }
+    ExitCode::SUCCESS
+}
+
+fn main() -> ExitCode {
+    let words: Vec<String> = std::env::args().skip(1).collect();
+    let word = |i: usize| words.get(i).map(String::as_str);
+    match word(0) {
+        Some("random") => random(word(1).map_or(200_000, |w| w.parse().expect("a number")), word(2).map_or(1, |w| w.parse().expect("a number"))),
+        Some("faults") => faults(),
+        _ => {
+            eprintln!("against random [CALLS [SEED]] | faults");
+            ExitCode::from(2)
+        }
+    }
+}
