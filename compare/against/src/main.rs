@@ -1,4 +1,4 @@
-//! Holds the proved library against the original: `against random CALLS SEED`, `against faults`.
+//! Holds the proved library against the original: random histories, sweeps through every case; faults laid in; a list recorded.
 
 mod compare;
 mod history;
@@ -6,8 +6,10 @@ mod image;
 mod oracle;
 mod ours;
 mod random;
+mod record;
 mod rules;
 mod shrink;
+mod sweeps;
 
 use std::process::ExitCode;
 
@@ -54,6 +56,23 @@ fn random(calls: u64, seed: u64) -> ExitCode {
             ExitCode::FAILURE
         }
     }
+}
+
+/// Goes through every case.
+fn sweeps() -> ExitCode {
+    for (name, histories) in sweeps::sweeps() {
+        let mut counts = Counts::new();
+        for history in &histories {
+            let every = if history.calls.len() < 100 { 1 } else { 20 };
+            if let Err((at, _)) = run(history, every, None, &mut counts) {
+                let (history, why) = shrink::shrink(history, at, None);
+                print(&history, &why);
+                return ExitCode::FAILURE;
+            }
+        }
+        println!("{name}: {} calls agree", counts.values().flat_map(|numbers| numbers.values()).sum::<u64>());
+    }
+    ExitCode::SUCCESS
 }
 
 /// Faults laid into our side's answers; each must be found.
@@ -109,9 +128,15 @@ fn main() -> ExitCode {
     let word = |i: usize| words.get(i).map(String::as_str);
     match word(0) {
         Some("random") => random(word(1).map_or(200_000, |w| w.parse().expect("a number")), word(2).map_or(1, |w| w.parse().expect("a number"))),
+        Some("sweeps") => sweeps(),
         Some("faults") => faults(),
+        Some("record") => {
+            let lines = record::record_into(word(1).expect("a folder").as_ref()).expect("the folder can be written");
+            println!("{lines} calls recorded");
+            ExitCode::SUCCESS
+        }
         _ => {
-            eprintln!("against random [CALLS [SEED]] | faults");
+            eprintln!("against random [CALLS [SEED]] | sweeps | faults | record FOLDER");
             ExitCode::from(2)
         }
     }

@@ -44,8 +44,8 @@ impl Random {
 
 pub const POINT_TYPES: [u8; 30] =
     [1, 2, 3, 4, 5, 6, 7, 9, 10, 11, 12, 13, 14, 15, 17, 18, 19, 20, 21, 30, 31, 32, 33, 34, 35, 36, 37, 38, 39, 40];
-const SYSTEM_TYPES: [u8; 7] = [100, 101, 102, 103, 104, 105, 107];
-const PROCESS_TYPES: [u8; 14] = [45, 46, 47, 48, 49, 50, 51, 58, 59, 60, 61, 62, 63, 64];
+pub const SYSTEM_TYPES: [u8; 7] = [100, 101, 102, 103, 104, 105, 107];
+pub const PROCESS_TYPES: [u8; 14] = [45, 46, 47, 48, 49, 50, 51, 58, 59, 60, 61, 62, 63, 64];
 
 /// What a history draws from: its plan, and the addresses that its calls name.
 pub struct Draw {
@@ -101,6 +101,11 @@ impl Draw {
             _ => (0..4).map(|_| random.one_of(&POINT_TYPES)).collect(),
         };
         Self { random, capacity, plan, ioas, types, wanted: Vec::new(), apart }
+    }
+
+    /// A history to be recorded: at most 100 points in small batches, at most four stations, and no IOA in two of them.
+    pub fn small(seed: u64) -> Self {
+        (seed..).step_by(1000).map(|seed| Self::new(seed, true)).find(|draw| draw.capacity <= 100 && draw.plan.len() <= 4).expect("one of them")
     }
 
     pub fn history(mut self, calls: usize) -> History {
@@ -181,8 +186,8 @@ impl Draw {
     }
 
     fn batch(&mut self) -> Vec<Point> {
-        if self.random.once_in(2) {
-            let n = self.random.below(6);
+        if self.apart || self.random.once_in(2) {
+            let n = self.random.below(8);
             return (0..n).map(|_| self.point()).collect();
         }
         // One type, just at the boundary of so many full ASDUs.
@@ -277,7 +282,7 @@ impl Draw {
         match self.random.below(8) {
             0 => asdu.truncate(self.random.below(length)),
             1 => asdu.extend(self.random.octets(1).repeat(1 + self.random.below(12))),
-            2 => asdu.extend(self.random.octets(300)),
+            2 => asdu.extend(self.random.octets(200)),
             3 => asdu[1] ^= 0x80,
             4 => asdu[1] = self.random.octet(),
             5 => asdu[0] = self.random.octet(),
