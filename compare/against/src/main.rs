@@ -1,5 +1,6 @@
 //! Holds the proved library against the original: random histories, sweeps through every case; faults laid in; a list recorded.
 
+mod ask;
 mod compare;
 mod history;
 mod image;
@@ -130,13 +131,17 @@ fn main() -> ExitCode {
         Some("random") => random(word(1).map_or(200_000, |w| w.parse().expect("a number")), word(2).map_or(1, |w| w.parse().expect("a number"))),
         Some("sweeps") => sweeps(),
         Some("faults") => faults(),
+        Some("ask") => {
+            ask::answer_lines();
+            ExitCode::SUCCESS
+        }
         Some("record") => {
             let lines = record::record_into(word(1).expect("a folder").as_ref()).expect("the folder can be written");
             println!("{lines} calls recorded");
             ExitCode::SUCCESS
         }
         _ => {
-            eprintln!("against random [CALLS [SEED]] | sweeps | faults | record FOLDER");
+            eprintln!("against random [CALLS [SEED]] | sweeps | faults | record FOLDER | ask");
             ExitCode::from(2)
         }
     }

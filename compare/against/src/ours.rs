@@ -93,7 +93,11 @@ impl Ours {
     }
 
     pub fn register(&mut self, point: &Point) -> Reply {
-        unsafe { khuvelter_register_point(self.table.as_mut_ptr(), self.table.len(), &record(point)) }
+        self.register_record(&record(point))
+    }
+
+    pub fn register_record(&mut self, record: &[u8; 24]) -> Reply {
+        unsafe { khuvelter_register_point(self.table.as_mut_ptr(), self.table.len(), record) }
     }
 
     pub fn register_all(&mut self, points: &[Point]) -> Reply {
@@ -130,18 +134,31 @@ impl Ours {
     }
 
     pub fn process_command(&mut self, asdu: &[u8], proposal: &Proposal, room: usize, spontaneous_room: usize) -> Reply {
-        self.lend(room, spontaneous_room);
         let updates = proposal.updates.iter().flat_map(update).collect::<Vec<u8>>();
+        self.process_octets(asdu, proposal.negative as u8, proposal.reply_type, &proposal.reply, &updates, room, spontaneous_room)
+    }
+
+    pub fn process_octets(
+        &mut self,
+        asdu: &[u8],
+        negative: u8,
+        reply_type: u8,
+        reply: &[u8],
+        updates: &[u8],
+        room: usize,
+        spontaneous_room: usize,
+    ) -> Reply {
+        self.lend(room, spontaneous_room);
         unsafe {
             khuvelter_process_command(
                 self.table.as_mut_ptr(),
                 self.table.len(),
                 asdu.as_ptr(),
                 asdu.len(),
-                proposal.negative as u8,
-                proposal.reply_type,
-                proposal.reply.as_ptr(),
-                proposal.reply.len(),
+                negative,
+                reply_type,
+                reply.as_ptr(),
+                reply.len(),
                 updates.as_ptr(),
                 updates.len(),
                 self.answer.as_mut_ptr(),
