@@ -44,18 +44,13 @@ pub fn answer_lines() {
             "register" => ours.register_record(&octets(words[1]).try_into().expect("24 octets")),
             "started" => ours.connection_started(ROOM),
             "system" => ours.system_command(&octets(words[1]), ROOM),
-            "process" => ours.process_octets(
-                &octets(words[1]),
-                number(words[2]),
-                number(words[3]),
-                &octets(words[4]),
-                &octets(words[5]),
-                ROOM,
-                ROOM,
-            ),
+            "process" => {
+                ours.process_octets(&octets(words[1]), number(words[2]), number(words[3]), &octets(words[4]), &octets(words[5]), ROOM, ROOM)
+            }
             other => panic!("no call is named {other}"),
         };
-        let [answer, spontaneous] = [(&ours.answer, reply.octets), (&ours.spontaneous, reply.spontaneous)].map(|(memory, n)| hex(memory.get(..n as usize).unwrap_or(&[])));
+        let [answer, spontaneous] = [(&ours.answer, reply.octets), (&ours.spontaneous, reply.spontaneous)]
+            .map(|(memory, n)| hex(memory.get(..n as usize).unwrap_or(&[])));
         println!("{} {answer} {spontaneous}", reply.number);
     }
 }

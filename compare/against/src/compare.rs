@@ -9,15 +9,27 @@ use crate::{
     ours::{ANSWER_FILL, Ours, Reply, SPONTANEOUS_FILL},
 };
 
-/// How often a run was what, for the report at its end.
-pub type Counts = BTreeMap<String, BTreeMap<u32, u64>>;
+/// What a run met: how often each kind of call gave each number, and how many objects of each type were sent and told.
+#[derive(Default)]
+pub struct Counts {
+    pub numbers: BTreeMap<String, BTreeMap<u32, u64>>,
+    pub sent: BTreeMap<u8, u64>,
+    pub told: BTreeMap<u8, u64>,
+}
+
+impl Counts {
+    /// All calls.
+    pub fn calls(&self) -> u64 {
+        self.numbers.values().flat_map(|numbers| numbers.values()).sum()
+    }
+}
 
 /// A fault laid into our side's answers, to see that it is found and shrunk.
 pub type Fault = fn(&Call, &mut Ours, &mut Reply);
 
 pub struct Pair {
-    pub oracle: Oracle,
-    pub ours: Ours,
+    oracle: Oracle,
+    ours: Ours,
     fault: Option<Fault>,
 }
 
@@ -56,7 +68,11 @@ fn holds(memory: &[u8], octets: usize, fill: u8, expected: &[Vec<u8>], collectio
     }
     let lengths_agree = written.len() == expected.iter().map(Vec::len).sum::<usize>();
     let written = cut(written, expected);
-    if collection && lengths_agree && written.iter().zip(expected).all(|(w, e)| w[..6] == e[..6]) && as_collection(&written) == as_collection(expected) {
+    if collection
+        && lengths_agree
+        && written.iter().zip(expected).all(|(w, e)| w[..6] == e[..6])
+        && as_collection(&written) == as_collection(expected)
+    {
         return Ok(());
     }
     Err(format!("ours {written:02x?}, the original {expected:02x?}"))
@@ -68,10 +84,12 @@ impl Pair {
     }
 
     /// Makes a call on both; the numbers that were given, or what disagrees.
-    pub fn call(&mut self, call: &Call) -> Result<Vec<u32>, String> {
+    pub fn call(&mut self, call: &Call, counts: &mut Counts) -> Result<Vec<u32>, String> {
         let mut numbers = Vec::new();
         let before = (self.ours.table.clone(), self.ours.clock);
         let expected = self.oracle.call(call);
+        objects(&expected.said.sent).for_each(|(type_id, ..)| *counts.sent.entry(type_id).or_default() += 1);
+        objects(&expected.said.broadcast).for_each(|(type_id, ..)| *counts.told.entry(type_id).or_default() += 1);
         let [sent, broadcast] = [&expected.said.sent, &expected.said.broadcast].map(|asdus| asdus.iter().map(Vec::len).sum::<usize>());
         if expected.number == 0 {
             for (number, room, spontaneous_room) in too_little(call, sent, broadcast) {
@@ -115,7 +133,8 @@ impl Pair {
             return Err(format!("ours gives number {}, the original says {:02x?}", reply.number, expected.said));
         }
         let collection = matches!(call, Call::System { asdu, .. } if asdu[4..6] == [0xFF, 0xFF]);
-        holds(&self.ours.answer, reply.octets as usize, ANSWER_FILL, &expected.said.sent, collection).map_err(|why| format!("answer: {why}"))?;
+        holds(&self.ours.answer, reply.octets as usize, ANSWER_FILL, &expected.said.sent, collection)
+            .map_err(|why| format!("answer: {why}"))?;
         holds(&self.ours.spontaneous, reply.spontaneous as usize, SPONTANEOUS_FILL, &expected.said.broadcast, false)
             .map_err(|why| format!("spontaneous: {why}"))
     }
@@ -138,15 +157,24 @@ impl Pair {
         reply
     }
 
-    /// Compares the whole table with what the original's interrogations tell.
+    /// Compares the whole table with what the original's interrogations tell, and the shares with the points that it holds.
     pub fn tables_agree(&mut self) -> Result<(), String> {
+        for (ca, share) in self.oracle.shares() {
+            if self.ours.share(ca) != share {
+                return Err(format!("the share of {ca}: ours {:?}, expected {share:?}", self.ours.share(ca)));
+            }
+        }
         let expected = self.oracle.table();
         match self.ours.table.iter().zip(&expected).position(|(ours, original)| ours != original) {
             None => Ok(()),
             Some(at) => {
                 let from = if at < 64 { 0 } else { 64 + (at - 64) / 48 * 48 };
                 let place = |table: &[u8]| table[from..(from + 48).min(table.len())].to_vec();
-                Err(format!("the tables differ at octet {at}: ours {:02x?}, the original's {:02x?}", place(&self.ours.table), place(&expected)))
+                Err(format!(
+                    "the tables differ at octet {at}: ours {:02x?}, the original's {:02x?}",
+                    place(&self.ours.table),
+                    place(&expected)
+                ))
             }
         }
     }
@@ -179,8 +207,8 @@ pub fn too_little(call: &Call, sent: usize, broadcast: usize) -> Vec<(u32, usize
 pub fn run(history: &History, every: usize, fault: Option<Fault>, counts: &mut Counts) -> Result<(), (usize, String)> {
     let mut pair = Pair::new(history, fault);
     for (i, call) in history.calls.iter().enumerate() {
-        for number in pair.call(call).map_err(|why| (i, why))? {
-            *counts.entry(call.kind()).or_default().entry(number).or_default() += 1;
+        for number in pair.call(call, counts).map_err(|why| (i, why))? {
+            *counts.numbers.entry(call.kind()).or_default().entry(number).or_default() += 1;
         }
         if i % every == every - 1 || i + 1 == history.calls.len() {
             pair.tables_agree().map_err(|why| (i, why))?;

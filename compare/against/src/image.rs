@@ -18,7 +18,8 @@ pub fn objects(sent: &[Vec<u8>]) -> impl Iterator<Item = (u8, u32, &[u8])> {
 /// Asks for the points of a station: all, then those of each group.
 pub fn points(original: &mut Original, ca: u16) -> BTreeMap<u32, Point> {
     let [low, high] = ca.to_le_bytes();
-    let mut ask = |type_id: u8, qualifier: u8| original.system_command(&[type_id, 1, 6, 0, low, high, 0, 0, 0, qualifier]).expect("an ASDU").sent;
+    let mut ask =
+        |type_id: u8, qualifier: u8| original.system_command(&[type_id, 1, 6, 0, low, high, 0, 0, 0, qualifier]).expect("an ASDU").sent;
     let mut points = BTreeMap::new();
     for (type_id, ioa, octets) in objects(&ask(100, 20)) {
         let mut value = [0; 12];

@@ -2,6 +2,7 @@
 
 mod ask;
 mod compare;
+mod differences;
 mod history;
 mod image;
 mod oracle;
@@ -12,7 +13,7 @@ mod rules;
 mod shrink;
 mod sweeps;
 
-use std::process::ExitCode;
+use std::{collections::BTreeMap, process::ExitCode};
 
 use compare::{Counts, Fault, run};
 use history::{Call, History};
@@ -27,29 +28,35 @@ fn print(history: &History, why: &str) {
     println!("  {why}");
 }
 
-/// Runs histories until so many calls were made; gives what was counted, or the first disagreement.
+/// Runs histories until so many calls were made, then one of a tenth as many; gives what was met, or the first disagreement.
 fn histories(calls: u64, seed: u64, fault: Option<Fault>) -> Result<(Counts, u64), (History, String)> {
-    let mut counts = Counts::new();
+    let mut counts = Counts::default();
     let (mut made, mut number) = (0, 0);
-    while made < calls {
+    let last = calls / 10;
+    while made < calls + last {
         let mut draw = Draw::new(seed.wrapping_mul(1_000_003).wrapping_add(number), false);
-        let length = 20 + draw.random.below(300);
-        let history = draw.history(length);
-        run(&history, 10, fault, &mut counts).map_err(|(at, _)| shrink::shrink(&history, at, fault))?;
-        made += length as u64;
+        let long = calls <= made;
+        let length = if long { last } else { 20 + draw.random.below(300) as u64 };
+        let history = draw.history(length as usize);
+        run(&history, if long { 100 } else { 10 }, fault, &mut counts).map_err(|(at, _)| shrink::shrink(&history, at, fault))?;
+        made += length;
         number += 1;
     }
     Ok((counts, number))
 }
 
+fn list<K: std::fmt::Display>(counts: &BTreeMap<K, u64>) -> String {
+    counts.iter().map(|(key, times)| format!("{key}: {times}")).collect::<Vec<_>>().join(", ")
+}
+
 fn random(calls: u64, seed: u64) -> ExitCode {
     match histories(calls, seed, None) {
         Ok((counts, histories)) => {
-            for (kind, numbers) in &counts {
-                println!("{kind:28} {}", numbers.iter().map(|(number, times)| format!("{number}: {times}")).collect::<Vec<_>>().join(", "));
-            }
-            let made: u64 = counts.values().flat_map(|numbers| numbers.values()).sum();
-            println!("{made} calls in {histories} histories from seed {seed}: the proved library and the original agree");
+            println!("each kind of call, and how often it gave each number:");
+            counts.numbers.iter().for_each(|(kind, numbers)| println!("  {kind:28} {}", list(numbers)));
+            println!("objects sent, by type: {}", list(&counts.sent));
+            println!("objects told, by type: {}", list(&counts.told));
+            println!("{} calls in {histories} histories from seed {seed}: the proved library and the original agree", counts.calls());
             ExitCode::SUCCESS
         }
         Err((history, why)) => {
@@ -62,7 +69,7 @@ fn random(calls: u64, seed: u64) -> ExitCode {
 /// Goes through every case.
 fn sweeps() -> ExitCode {
     for (name, histories) in sweeps::sweeps() {
-        let mut counts = Counts::new();
+        let mut counts = Counts::default();
         for history in &histories {
             let every = if history.calls.len() < 100 { 1 } else { 20 };
             if let Err((at, _)) = run(history, every, None, &mut counts) {
@@ -71,7 +78,7 @@ fn sweeps() -> ExitCode {
                 return ExitCode::FAILURE;
             }
         }
-        println!("{name}: {} calls agree", counts.values().flat_map(|numbers| numbers.values()).sum::<u64>());
+        println!("{name}: {} calls agree", counts.calls());
     }
     ExitCode::SUCCESS
 }
@@ -128,9 +135,15 @@ fn main() -> ExitCode {
     let words: Vec<String> = std::env::args().skip(1).collect();
     let word = |i: usize| words.get(i).map(String::as_str);
     match word(0) {
-        Some("random") => random(word(1).map_or(200_000, |w| w.parse().expect("a number")), word(2).map_or(1, |w| w.parse().expect("a number"))),
+        Some("random") => {
+            random(word(1).map_or(200_000, |w| w.parse().expect("a number")), word(2).map_or(1, |w| w.parse().expect("a number")))
+        }
         Some("sweeps") => sweeps(),
         Some("faults") => faults(),
+        Some("differences") => {
+            differences::differences();
+            ExitCode::SUCCESS
+        }
         Some("ask") => {
             ask::answer_lines();
             ExitCode::SUCCESS
@@ -141,7 +154,7 @@ fn main() -> ExitCode {
             ExitCode::SUCCESS
         }
         _ => {
-            eprintln!("against random [CALLS [SEED]] | sweeps | faults | record FOLDER | ask");
+            eprintln!("against random [CALLS [SEED]] | sweeps | faults | differences | record FOLDER | ask");
             ExitCode::from(2)
         }
     }

@@ -4,7 +4,9 @@ use original::{Answer, Original, Point, Proposal, Refusal};
 
 use crate::{
     history::{Call, History, Station},
-    image, rules,
+    image,
+    ours::Share,
+    rules,
 };
 
 /// What is expected of a call that is given enough memory.
@@ -52,7 +54,10 @@ impl Oracle {
     /// Makes the call on the original.
     pub fn call(&mut self, call: &Call) -> Expected {
         match call {
-            Call::Register(point) => Expected { place: 0, ..self.register(std::slice::from_ref(point), |original, p| p.iter().try_for_each(|p| original.register(p))) },
+            Call::Register(point) => Expected {
+                place: 0,
+                ..self.register(std::slice::from_ref(point), |original, p| p.iter().try_for_each(|p| original.register(p)))
+            },
             Call::RegisterAll(points) => self.register(points, |original, p| original.register_all(p)),
             Call::Unregister { ca, ioa } => self.unregister(*ca, *ioa),
             Call::UnregisterAll => {
@@ -129,6 +134,21 @@ impl Oracle {
             clock[7] = 1;
         }
         clock
+    }
+
+    /// What every planned station's share must be.
+    pub fn shares(&self) -> Vec<(u16, Share)> {
+        let free = self.capacity - self.held.iter().sum::<usize>() as u32;
+        let unmet = self.plan.iter().zip(&self.held).map(|(s, held)| (s.reservation as u32).saturating_sub(*held as u32)).sum();
+        let share = |s: &Station, held: &usize| Share {
+            number: 0,
+            reservation: s.reservation as u32,
+            ceiling: s.ceiling as u32,
+            held: *held as u32,
+            free,
+            unmet,
+        };
+        self.plan.iter().zip(&self.held).map(|(s, held)| (s.ca, share(s, held))).collect()
     }
 
     /// The memory of a table that holds what the original holds.

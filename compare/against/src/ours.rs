@@ -12,6 +12,18 @@ pub struct Reply {
     pub spontaneous: u32,
 }
 
+/// A station's share (DESIGN.md, section 5).
+#[repr(C)]
+#[derive(Debug, Clone, Copy, PartialEq, Eq, Default)]
+pub struct Share {
+    pub number: u32,
+    pub reservation: u32,
+    pub ceiling: u32,
+    pub held: u32,
+    pub free: u32,
+    pub unmet: u32,
+}
+
 unsafe extern "C" {
     fn khuvelter_open(table: *mut u8, table_length: usize, capacity: u32, plan: *const u16, plan_length: usize) -> Reply;
     fn khuvelter_register_point(table: *mut u8, table_length: usize, record: *const [u8; 24]) -> Reply;
@@ -19,6 +31,7 @@ unsafe extern "C" {
     fn khuvelter_unregister_point(table: *mut u8, table_length: usize, ca: u16, ioa: u32) -> Reply;
     fn khuvelter_unregister_all(table: *mut u8, table_length: usize) -> Reply;
     fn khuvelter_connection_started(table: *const u8, table_length: usize, answer: *mut u8, answer_length: usize) -> Reply;
+    fn khuvelter_share(table: *const u8, table_length: usize, ca: u16) -> Share;
     fn khuvelter_system_command(
         table: *mut u8,
         table_length: usize,
@@ -111,6 +124,10 @@ impl Ours {
 
     pub fn unregister_all(&mut self) -> Reply {
         unsafe { khuvelter_unregister_all(self.table.as_mut_ptr(), self.table.len()) }
+    }
+
+    pub fn share(&self, ca: u16) -> Share {
+        unsafe { khuvelter_share(self.table.as_ptr(), self.table.len(), ca) }
     }
 
     pub fn connection_started(&mut self, room: usize) -> Reply {

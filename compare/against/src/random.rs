@@ -72,7 +72,8 @@ fn plan(random: &mut Random) -> (u32, Vec<Station>) {
         1..=3 => 1,
         _ => 2 + random.below(4),
     };
-    let mut addresses: Vec<u16> = (0..stations).map(|_| if random.once_in(3) { 1 + random.below(300) } else { 1 + random.below(65534) } as u16).collect();
+    let mut addresses: Vec<u16> =
+        (0..stations).map(|_| if random.once_in(3) { 1 + random.below(300) } else { 1 + random.below(65534) } as u16).collect();
     if random.once_in(6) {
         addresses[0] = random.one_of(&[1, 65534, 256, 255]);
     }
@@ -105,7 +106,11 @@ impl Draw {
 
     /// A history to be recorded: at most 100 points in small batches, at most four stations, and no IOA in two of them.
     pub fn small(seed: u64) -> Self {
-        (seed..).step_by(1000).map(|seed| Self::new(seed, true)).find(|draw| draw.capacity <= 100 && draw.plan.len() <= 4).expect("one of them")
+        (seed..)
+            .step_by(1000)
+            .map(|seed| Self::new(seed, true))
+            .find(|draw| draw.capacity <= 100 && draw.plan.len() <= 4)
+            .expect("one of them")
     }
 
     pub fn history(mut self, calls: usize) -> History {
@@ -129,7 +134,13 @@ impl Draw {
                 let (ca, ioa) = self.address();
                 Call::Unregister { ca, ioa }
             }
-            28 => if self.random.once_in(3) { Call::UnregisterAll } else { Call::Started { short: self.short() } },
+            28 => {
+                if self.random.once_in(3) {
+                    Call::UnregisterAll
+                } else {
+                    Call::Started { short: self.short() }
+                }
+            }
             29..=30 => Call::Started { short: self.short() },
             31..=70 => {
                 let asdu = self.system();

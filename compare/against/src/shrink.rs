@@ -6,7 +6,7 @@ use crate::{
 };
 
 fn disagreement(history: &History, fault: Option<Fault>) -> Option<(usize, String)> {
-    run(history, 1, fault, &mut Counts::new()).err()
+    run(history, 1, fault, &mut Counts::default()).err()
 }
 
 /// Leaves out parts of a list, large ones first, for as long as `bad` holds of what is left.

@@ -8,6 +8,17 @@ use crate::{
     rules::{element, process_element, system_element},
 };
 
+/// The point at IOA 3 of document 01's gateway on paper.
+pub const POINT_AT_THREE: Point = Point { ca: 7, ioa: 3, type_id: 1, octets: [0; 12], interrogation_group: None, counter_group: None };
+
+/// The points of document 01's gateway on paper.
+pub fn paper() -> Vec<Point> {
+    let counter = Point { ioa: 5, type_id: 15, octets: [0x2A, 0, 0, 0, 3, 0, 0, 0, 0, 0, 0, 0], counter_group: Some(1), ..POINT_AT_THREE };
+    let mut single = Point { ioa: 10, interrogation_group: Some(1), ..POINT_AT_THREE };
+    single.octets[0] = 1;
+    vec![single, POINT_AT_THREE, counter]
+}
+
 /// Two stations with plenty of room.
 fn plan(capacity: u32) -> Vec<Station> {
     [7, 300].map(|ca| Station { ca, reservation: 1, ceiling: capacity as u16 }).to_vec()
@@ -135,7 +146,13 @@ fn packing() -> Vec<History> {
         for count in [1, most - 1, most, most + 1, 2 * most - 1, 2 * most, 2 * most + 1, 3 * most] {
             let capacity = 2 * count as u32 + 2;
             let counter = matches!(type_id, 15 | 37).then_some(2);
-            let run = |ca| (0..count).map(move |i| Point { interrogation_group: Some(3), counter_group: counter, ..point(ca, 65530 + i as u32, type_id) });
+            let run = |ca| {
+                (0..count).map(move |i| Point {
+                    interrogation_group: Some(3),
+                    counter_group: counter,
+                    ..point(ca, 65530 + i as u32, type_id)
+                })
+            };
             let mut calls = vec![Call::RegisterAll(run(7).rev().collect()), Call::RegisterAll(run(300).collect())];
             for ca in [7, 65535] {
                 for (type_id, qualifier) in [(100, 20), (100, 23), (101, 5), (101, 2), (101, 0x82), (100, 20)] {
@@ -153,7 +170,16 @@ fn full() -> History {
     let batch = |ca, from: u32| Call::RegisterAll((0..2048).map(|i| point(ca, from + i, POINT_TYPES[i as usize % 30])).collect());
     let ask = |ca, type_id, qualifier| system(command(type_id, 1, 6, ca, 1, qualifier));
     let over = Call::Register(point(7, 1, 1));
-    let calls = vec![batch(300, 5000), batch(7, 6000), over, ask(7, 100, 20), ask(300, 100, 20), ask(65535, 100, 20), ask(65535, 101, 0xC5), ask(65535, 100, 20)];
+    let calls = vec![
+        batch(300, 5000),
+        batch(7, 6000),
+        over,
+        ask(7, 100, 20),
+        ask(300, 100, 20),
+        ask(65535, 100, 20),
+        ask(65535, 101, 0xC5),
+        ask(65535, 100, 20),
+    ];
     History { capacity: 4096, plan: plan(4096), calls }
 }
 
@@ -164,7 +190,10 @@ pub fn sample() -> Vec<History> {
             point.ioa += 10_000;
         }
     };
-    let mut every_call: Vec<Call> = [(control_octets(), 23), (qualifiers(), 7), (types(), 37), (lengths(), 97)].into_iter().flat_map(|(h, step)| h.calls.into_iter().skip(1).step_by(step)).collect();
+    let mut every_call: Vec<Call> = [(control_octets(), 23), (qualifiers(), 7), (types(), 37), (lengths(), 97)]
+        .into_iter()
+        .flat_map(|(h, step)| h.calls.into_iter().skip(1).step_by(step))
+        .collect();
     for call in &mut every_call {
         if let Call::Process { proposal, .. } = call {
             proposal.updates.iter_mut().for_each(apart);
@@ -176,7 +205,11 @@ pub fn sample() -> Vec<History> {
     }
     let mut histories = vec![history];
     histories.extend(packing().into_iter().skip(3).step_by(8).map(|mut history| {
-        history.calls.iter_mut().for_each(|call| if let Call::RegisterAll(points) = call { points.iter_mut().for_each(apart) });
+        history.calls.iter_mut().for_each(|call| {
+            if let Call::RegisterAll(points) = call {
+                points.iter_mut().for_each(apart)
+            }
+        });
         history
     }));
     histories

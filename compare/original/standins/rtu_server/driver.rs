@@ -108,7 +108,8 @@ impl RtuCommandHandler for Proposing {
         CommandHandling {
             negative: proposal.negative,
             reply_type_id,
-            reply_information_objects: InformationObjects::from_bytes(reply_type_id, false, count as u8, &proposal.reply).expect("whole objects"),
+            reply_information_objects: InformationObjects::from_bytes(reply_type_id, false, count as u8, &proposal.reply)
+                .expect("whole objects"),
             apply_updates: updates.filter_map(|p| Some((PointAddress::new(p.ca, p.ioa), value(p.type_id, &p.octets)?))).collect(),
         }
     }

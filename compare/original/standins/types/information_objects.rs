@@ -14,7 +14,12 @@ use crate::{
 pub const ADDRESS_SIZE: usize = 3;
 
 /// The objects one after another.
-fn read<T: FromBytes + ToBytes + Default>(size: usize, sequence: bool, count: u8, octets: &[u8]) -> Result<Vec<GenericObject<T>>, ParseError> {
+fn read<T: FromBytes + ToBytes + Default>(
+    size: usize,
+    sequence: bool,
+    count: u8,
+    octets: &[u8],
+) -> Result<Vec<GenericObject<T>>, ParseError> {
     let address_at = |at: usize| u32::from_le_bytes([octets[at], octets[at + 1], octets[at + 2], 0]);
     (0..count as usize)
         .map(|i| {
