@@ -66,7 +66,7 @@ pub fn refused_asdu(asdu: &[u8], element: fn(u8) -> Option<usize>) -> Option<u32
 pub fn bad_proposal(proposal: &Proposal) -> bool {
     match process_element(proposal.reply_type) {
         None => true,
-        Some(octets) => 243 < proposal.reply.len() || !proposal.reply.len().is_multiple_of(3 + octets),
+        Some(octets) => 243 < proposal.reply.len() || proposal.reply.len() % (3 + octets) != 0,
     }
 }
 
