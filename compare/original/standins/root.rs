@@ -8,4 +8,4 @@ mod server;
 mod types;
 mod types_id;
 
-pub use rtu_server::driver::{Answer, Original, Point, Proposal, Refusal, reads_back};
+pub use rtu_server::driver::{Answer, Batch, Original, Point, Proposal, Refusal, reads_back};

@@ -36,6 +36,22 @@ pub struct Point {
     pub counter_group: Option<u8>,
 }
 
+/// Points made into the original's own types beforehand, so that their registration alone can be timed.
+#[derive(Clone)]
+pub struct Batch(Vec<RtuInitialPoint>);
+
+impl Batch {
+    pub fn new(points: &[Point]) -> Self {
+        let initial = |p: &Point| RtuInitialPoint {
+            address: PointAddress::new(p.ca, p.ioa),
+            value: value(p.type_id, &p.octets).expect("a point type"),
+            interrogation_group: p.interrogation_group,
+            counter_group: p.counter_group,
+        };
+        Self(points.iter().map(initial).collect())
+    }
+}
+
 /// Why the original refuses a registration.
 #[derive(Debug, Clone, Copy, PartialEq, Eq)]
 pub enum Refusal {
@@ -192,13 +208,11 @@ impl Original {
     }
 
     pub fn register_all(&mut self, points: &[Point]) -> Result<(), Refusal> {
-        let initial = |p: &Point| RtuInitialPoint {
-            address: PointAddress::new(p.ca, p.ioa),
-            value: value(p.type_id, &p.octets).expect("a point type"),
-            interrogation_group: p.interrogation_group,
-            counter_group: p.counter_group,
-        };
-        let points = points.iter().map(initial).collect();
+        self.register_batch(Batch::new(points))
+    }
+
+    pub fn register_batch(&mut self, batch: Batch) -> Result<(), Refusal> {
+        let points = batch.0;
         let result = self.ask(|reply| ActorMsg::RegisterPoints { points, reply });
         result.map_err(|error| match error {
             RegisterPointsError::InvalidInterrogationGroup { .. } => Refusal::InterrogationGroup,
