@@ -111,8 +111,4 @@ impl Ours {
         let reply = granted("process command", reply);
         (reply.octets + reply.spontaneous) as usize
     }
-
-    pub fn answer(&self, octets: usize) -> &[u8] {
-        &self.answer[..octets]
-    }
 }
