@@ -1,2 +1,5 @@
+pub mod Flat
+pub mod Ordered
+pub mod Raised
 pub mod Storing
 pub mod Entry

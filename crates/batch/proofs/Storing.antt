@@ -1,188 +1,166 @@
--- Storing a batch: a record without a fault is put in, and with every record so the memory holds the table that the share rule left. Assumes nothing.
-use mathlib.Core.Path.{_≡_, refl, sym, ap, _∙_, subst}
-use mathlib.Core.List.{List, [], _∷_, _++_}
-use mathlib.Core.Bool.{Bool, true, false}
-use mathlib.Core.Option.{Option}
+-- Storing a batch that passed every test: its places merged among the table's, the stations' numbers raised and the number of points written make
+-- of the table's image the image of the table that the share rule left. Assumes nothing.
+use mathlib.Core.Path.{_≡_, refl, sym, ap, ap₂, _∙_, subst}
+use mathlib.Core.List.{List, [], _∷_, _++_, map, append-assoc}
+use mathlib.Core.Bool.{true}
 use Prim.Native.Nat.{ℕ, _+_, _*_, _-_, _/_, _≤_, _<_}
 use native.Mathlib.Omega.{arith}
-use lib.ListN.{length, drop}
-use lib.Seq.{drop-at}
-use Rattle.limits.specs.Test.{pick}
-use Rattle.limits.specs.Outcome.{isDone}
-use Rattle.limits.specs.declared.outcome.Outcome.{Outcome}
-use Rattle.limits.specs.declared.outcome.Outcome.the-variants.{Done, AlreadyRegistered}
-use Rattle.limits.proofs.Outcomes.{not-both, first-done, done-is}
-use Rattle.octets.specs.Number.{two, Octets}
+use lib.ListN.{length, drop, replicate, length-append, length-replicate, replicate-append-replicate}
+use Rattle.limits.specs.Test.{total}
+use Rattle.limits.specs.declared.outcome.Outcome.the-variants.{Done}
+use Rattle.octets.specs.Over.{over}
+use Rattle.octets.specs.Number.{two, pair, Octets}
+use Rattle.octets.proofs.Laws.{over-at}
 use Rattle.model.specs.declared.Request.{Request}
-use Rattle.model.specs.Request.{ownFault, pointOf, requestAt, requestsAt}
-use Rattle.model.proofs.Requests.{faultless}
-use Rattle.table.specs.Table.{Station, Table, image}
-use Rattle.table.specs.Memory.{wellFormed, tableOf, parse}
-use Rattle.table.specs.Change.{stationOf, known}
-use Rattle.table.proofs.Parse.{Good, is-good, passed, parsed, printed, holds, parse-complete}
-use Rattle.seats.specs.declared.Seat.the-variants.{Here, NotPlanned}
-use Rattle.seats.specs.declared.Spot.the-variants.{Held, Missing}
-use Rattle.seats.specs.Seats.{seatAt}
-use Rattle.seats.specs.Find.{findAt}
-use Rattle.seats.proofs.Laws.{seat-law, absent-law}
-use Rattle.seats.proofs.Halving.{held-law}
-use Rattle.insert.proofs.Entry.{PutIn, insert-law}
-use Rattle.insert.proofs.Entry as insert
-use Rattle.registry.specs.Effect.{Effect, holding}
-use Rattle.registry.specs.Registry.{isPlanned, isRegistered, roomFault, registeredFault, requestOutcome, withRequest, registering, ownTests, roomTests}
-use Rattle.registry.specs.History.{Twelve}
-use Rattle.registry.proofs.Requests.{described, Accepted, accepted-good, unregistered-is, admitted-is}
-use Rattle.registry.proofs.Batches.{Passes, Ready, AllApart, own-tests-ready, ready-after, passes-accepted}
-use Rattle.registry.proofs.Batches.Ready.{ready-more}
+use Rattle.table.specs.Table.{Station, Table, held, planOk, bodies, entries, head, image}
+use Rattle.table.specs.Memory.{wellFormed, tableOf}
+use Rattle.table.proofs.Stations.{length-bodies}
+use Rattle.table.proofs.Shares.{plan-of}
+use Rattle.table.proofs.Parse.{Good, Laid, passed, printed, holds}
+use Rattle.table.proofs.Cut.{head-over}
+use Rattle.registry.specs.Effect.{holding}
+use Rattle.registry.specs.Registry.{ownTests, roomTests}
+use Rattle.registry.specs.History.{holdingOf}
+use Rattle.registry.proofs.Batches.{Ready, own-tests-ready}
 use Rattle.records.specs.Records.{requestsIn}
-use Rattle.records.proofs.Laws.{requests-on, requests-end}
+use Rattle.sorting.specs.Sorted.{All, sorted}
+use Rattle.merging.specs.Merge.{Placed, joined, octetsOf, Rises, placedFrom, numbersFrom, placedOf, Fits}
+use Rattle.merging.proofs.Joined.{join-sorted}
+use Rattle.batch_room.specs.Room.{holdingWith, TookIn}
+use Rattle.batch.specs.Raise.{raised, Raisable}
+use Rattle.batch.proofs.Flat.{flat, flat-octets, flat-read, flat-rises}
+use Rattle.batch.proofs.Ordered.{fits-all, apart-all, batch-numbers, batch-places}
+use Rattle.batch.proofs.Raised.{same-stations, raise-entries, raisable-entries}
 
--- ---- one record
+-- ---- the image, part by part
 
--- what the registration of one point says that has no fault
-record Faultless (t : Table) (q : Request) : Type 0 where
-  own : ownFault (isPlanned (stationOf (q .ca) (t .stations))) q ≡ Done
-  new : isRegistered (q .ioa) (stationOf (q .ca) (t .stations)) ≡ false
-  room : roomFault t (stationOf (q .ca) (t .stations)) ≡ Done
+module _ (k n c : ℕ) (ss ss′ : List Station) (rest : List ℕ) (count : total held ss ≡ n) (more : total held ss′ ≡ n + c) (room : n + c ≤ k) where
+  -- all that lies before the stations, with the new places
+  front : List ℕ
+  front = head k (length ss) n ++ (bodies ss′ ++ replicate (48 * (k - (n + c))) 0)
 
-fault-less : (t : Table) (q : Request) → registering q t .outcome ≡ Done → Faultless t q
-unfolding registering requestOutcome
-fault-less t q e =
-    let a = first-done _ _ e in
-    let b = first-done _ _ (a .1) in
-    record { own = a .0; new = unregistered-is q _ (b .0); room = b .1 }
+  front-length : length front ≡ 64 + 48 * k
+  unfolding front
+  front-length =
+      let B : List ℕ = bodies ss′ in
+      let Z : List ℕ = replicate (48 * (k - (n + c))) 0 in
+      let lb : length B ≡ 48 * (n + c) = length-bodies ss′ ∙ ap (λ (x : ℕ). 48 * x) more in
+      let lz : length Z ≡ 48 * (k - (n + c)) = length-replicate (48 * (k - (n + c))) 0 in
+      let l : length (B ++ Z) ≡ length B + length Z = length-append B Z in
+      length-append (head k (length ss) n) (B ++ Z) ∙ (omega arith)
 
-is-faultless : (t : Table) (q : Request) → Passes t q → roomFault t (stationOf (q .ca) (t .stations)) ≡ Done → registering q t .outcome ≡ Done
-unfolding registering requestOutcome
-is-faultless t q p r =
-    let s : Option Station = stationOf (q .ca) (t .stations) in
-    ap (λ (o : Outcome). pick (isDone o) (pick (isDone (registeredFault q s)) (roomFault t s) (registeredFault q s)) o) (p .own)
-    ∙ ap (λ (b : Bool). pick (isDone (pick b AlreadyRegistered Done)) (roomFault t s) (pick b AlreadyRegistered Done)) (p .new)
-    ∙ r
+  -- The new places written over the old ones and the unused places that they take.
+  places-over : over (image (record { capacity = k; stations = ss }) ++ rest) 64 (bodies ss′) ≡ front ++ (entries ss ++ rest)
+  unfolding front image
+  places-over =
+      let H : List ℕ = head k (length ss) n in
+      let B : List ℕ = bodies ss in
+      let B′ : List ℕ = bodies ss′ in
+      let Z : List ℕ = replicate (48 * c) 0 in
+      let Z′ : List ℕ = replicate (48 * (k - (n + c))) 0 in
+      let R : List ℕ = entries ss ++ rest in
+      let f : 48 * (k - n) ≡ 48 * c + 48 * (k - (n + c)) = omega arith in
+      let z : replicate {A = ℕ} (48 * (k - n)) 0 ≡ Z ++ Z′ =
+      ap (λ (x : ℕ). replicate {A = ℕ} x 0) f ∙ sym (replicate-append-replicate (48 * c) (48 * (k - (n + c))) 0) in
+      let lb : length B ≡ 48 * n = length-bodies ss ∙ ap (λ (x : ℕ). 48 * x) count in
+      let lb′ : length B′ ≡ 48 * (n + c) = length-bodies ss′ ∙ ap (λ (x : ℕ). 48 * x) more in
+      let lz : length Z ≡ 48 * c = length-replicate (48 * c) 0 in
+      let lbz : length (B ++ Z) ≡ length B + length Z = length-append B Z in
+      let e : image-of n (replicate (48 * (k - n)) 0) ≡ H ++ ((B ++ Z) ++ (Z′ ++ R)) =
+      ap (image-of n) z ∙ simp append-assoc in
+      (λ j. over (image-of (count j) (replicate (48 * (k - count j)) 0)) 64 B′)
+      ∙ ap (λ (x : List ℕ). over x 64 B′) e
+      ∙ over-at H (B ++ Z) (Z′ ++ R) B′ 64 refl (omega arith)
+      ∙ simp append-assoc
+    where
+      image-of : ℕ → List ℕ → List ℕ
+      image-of x z = (head k (length ss) x ++ (bodies ss ++ (z ++ entries ss))) ++ rest
 
-module _ (m : List ℕ) (o : Octets m) (w : wellFormed m ≡ true) (q : Request) (e : registering q (tableOf m) .outcome ≡ Done) where
-  -- Its station has a seat.
-  pub has-seat : seatAt m (q .ca) ≡ NotPlanned → ⊥
-  unfolding isPlanned
-  has-seat s =
-      let f = fault-less (tableOf m) q e .own in
-      let p : false ≡ true = faultless false q (subst (λ (x : Option Station). ownFault (isPlanned x) q ≡ Done) (absent-law m (q .ca) s) f) .is-planned in
-      not-both p
+  -- Places, stations and the number of points written: the image of the table that holds more.
+  pub stored-image : (taken : List ℕ) → map holdingOf ss′ ≡ holdingWith ss taken 0
+      → over (raised (over (image (record { capacity = k; stations = ss }) ++ rest) 64 (bodies ss′)) taken 0 (64 + 48 * k) (length ss)) 8 (pair (n + c))
+      ≡ image (record { capacity = k; stations = ss′ }) ++ rest
+  unfolding front image
+  stored-image taken e =
+      let S : ℕ = length ss in
+      let B : List ℕ = bodies ss′ in
+      let Z : List ℕ = replicate (48 * (k - (n + c))) 0 in
+      let E : List ℕ = entries ss′ in
+      let s : S ≡ length ss′ = sym (same-stations ss ss′ taken 0 e) in
+      ap (λ (x : List ℕ). over (raised x taken 0 (64 + 48 * k) S) 8 (pair (n + c))) places-over
+      ∙ ap (λ (x : List ℕ). over x 8 (pair (n + c))) (raise-entries front rest ss ss′ taken 0 (64 + 48 * k) front-length e ∙ append-assoc (head k S n) (B ++ Z) (E ++ rest))
+      ∙ head-over k S n (n + c) ((B ++ Z) ++ (E ++ rest))
+      ∙ (λ j. head k (s j) (sym more j) ++ ((B ++ replicate (48 * (k - sym more j)) 0) ++ (E ++ rest)))
+      ∙ simp append-assoc
 
-  module _ (i first h : ℕ) (s : seatAt m (q .ca) ≡ Here i first h) where
-    -- No point stands there.
-    pub not-held : (at : ℕ) → findAt m first h (q .ioa) ≡ Held at → ⊥
-    unfolding isRegistered
-    not-held at f =
-        let z = seat-law m (q .ca) i first h o w s in
-        let k : known (q .ioa) (z .seat .s .points) ≡ true =
-        ap (known (q .ioa)) (sym (z .points)) ∙ held-law m first h (q .ioa) at (rw (z .points) (z .rises)) f .is-known in
-        let n : known (q .ioa) (z .seat .s .points) ≡ false =
-        ap (isRegistered (q .ioa)) (sym (z .seat .is-station)) ∙ fault-less (tableOf m) q e .new in
-        not-both (sym n ∙ k)
+  -- What raising the stations' numbers asks.
+  pub stored-raisable : (taken : List ℕ) (low : ℕ) → k ≤ 4096 → map holdingOf ss′ ≡ holdingWith ss taken 0 → planOk k low ss′ ≡ true
+      → Raisable (over (image (record { capacity = k; stations = ss }) ++ rest) 64 (bodies ss′)) taken 0 (64 + 48 * k) (length ss)
+  stored-raisable taken low h e p =
+      subst (λ (x : List ℕ). Raisable x taken 0 (64 + 48 * k) (length ss)) (sym places-over) (raisable-entries front rest k low ss ss′ taken 0 (64 + 48 * k) front-length h p e)
 
-    -- It is put in: what the code asks of the numbers, and the memory with it.
-    pub put-in : Twelve q → (at : ℕ) → findAt m first h (q .ioa) ≡ Missing at → PutIn m (q .ca) (pointOf q) i h at
-    unfolding pointOf roomFault
-    put-in v at f =
-        let z = fault-less (tableOf m) q e in
-        let a = insert.absent-law m (q .ca) (q .ioa) i first h at o w s f in
-        let d = described q _ v (z .own) in
-        insert-law m (q .ca) (pointOf q) i h at o w a (d .1) (admitted-is _ (sym (ap (roomFault (tableOf m)) (a .is-station)) ∙ z .room))
+-- ---- a memory that holds a table
 
-    -- Its address is one that a place can keep.
-    pub address-fits : pointOf q .ioa < 16777216
-    unfolding pointOf
-    address-fits = let a : q .ioa ≤ 16777215 = faultless _ q (fault-less (tableOf m) q e .own) .address in omega arith
+-- The memory with the places of the records merged among its own.
+abbrev pub merged : List ℕ → List ℕ → List ℕ
+merged m r = over m 64 (octetsOf (joined (placedOf r) (placedFrom m 64 (two m 8)) (sorted (numbersFrom r 0 (length r / 24)))))
 
--- ---- all records
+-- What storing an accepted batch asks at each step, and the memory that it leaves.
+pub record Storable (m r taken : List ℕ) : Type 0 where
+  pub stations : two m 6 ≤ 64
+  pub length-is : 64 + 48 * two m 4 + 8 * two m 6 ≤ length m
+  pub capacity : two m 4 ≤ 4096
+  pub free : two m 8 + length r / 24 ≤ two m 4
+  pub rises : Rises 0 (placedFrom m 64 (two m 8))
+  pub records : All (Fits r) (numbersFrom r 0 (length r / 24))
+  pub raisable : Raisable (merged m r) taken 0 (64 + 48 * two m 4) (two m 6)
+  pub memory : over (raised (merged m r) taken 0 (64 + 48 * two m 4) (two m 6)) 8 (pair (two m 8 + length r / 24))
+      ≡ holding m (tableOf m) (roomTests (tableOf m) 0 (requestsIn r) .after)
 
--- At a turn of the storing: the memory holds a good table, the records left are ready and have room, and with them it becomes the target.
-pub record Storing (target r m : List ℕ) (n i : ℕ) : Type 0 where
-  pub table : Table
-  pub rest : List ℕ
-  pub is-image : m ≡ image table ++ rest
-  pub good : Good table
-  pub ready : Ready table (requestsAt r (24 * i) (n - i))
-  pub room : roomTests table i (requestsAt r (24 * i) (n - i)) .outcome ≡ Done
-  pub whole : image (roomTests table i (requestsAt r (24 * i) (n - i)) .after) ++ rest ≡ target
-
--- the first request of those left has room, and so have the others after it
-room-first : (t : Table) (i : ℕ) (q : Request) (qs : List Request) → roomTests t i (q ∷ qs) .outcome ≡ Done
-    → (roomFault t (stationOf (q .ca) (t .stations)) ≡ Done) × (roomTests t i (q ∷ qs) ≡ roomTests (withRequest t q) (i + 1) qs)
-unfolding roomTests
-room-first t i q qs e = by-test (isDone (roomFault t (stationOf (q .ca) (t .stations)))) refl e
-  where
-    refusal : Effect
-    refusal = record { outcome = roomFault t (stationOf (q .ca) (t .stations)); place = i; after = t }
-
-    by-test : (b : Bool) → isDone (roomFault t (stationOf (q .ca) (t .stations))) ≡ b → pick b (roomTests (withRequest t q) (i + 1) qs) refusal .outcome ≡ Done
-        → (roomFault t (stationOf (q .ca) (t .stations)) ≡ Done) × (pick b (roomTests (withRequest t q) (i + 1) qs) refusal ≡ roomTests (withRequest t q) (i + 1) qs)
-    by-test true d f = (done-is _ d, refl)
-    by-test false d f = not-both (sym d ∙ ap isDone f)
-
--- what readiness says of the first request
-ready-first : (t : Table) (q : Request) (qs : List Request) → Ready t (q ∷ qs) → Passes t q × AllApart q qs × Ready t qs
-ready-first t q qs (ready-more p a y) = (p, a, y)
-
--- A memory that starts with a good table's image holds that table.
-holds-image : (m rest : List ℕ) (t : Table) → m ≡ image t ++ rest → Good t → (wellFormed m ≡ true) × (tableOf m ≡ t) × (drop (length (image t)) m ≡ rest)
-holds-image m rest t e g =
-    let p = parsed m t (ap parse e ∙ parse-complete t rest (is-good t g)) in
-    (p .0, p .1, ap (drop (length (image t))) e ∙ drop-at (image t) rest (length (image t)) refl)
-
-pub storing-start : (m r : List ℕ) → Octets m → wellFormed m ≡ true → ownTests (tableOf m) [] 0 (requestsIn r) .outcome ≡ Done
-    → roomTests (tableOf m) 0 (requestsIn r) .outcome ≡ Done
-    → Storing (holding m (tableOf m) (roomTests (tableOf m) 0 (requestsIn r) .after)) r m (length r / 24) 0
-storing-start m r o w own room =
-    let n : ℕ = length r / 24 in
-    let e : n ≡ n - 0 = omega arith in
-    let q : requestsAt r 0 n ≡ requestsAt r (24 * 0) (n - 0) = ap (requestsAt r 0) e in
+pub storable : (m r taken : List ℕ) → Octets m → wellFormed m ≡ true → ownTests (tableOf m) [] 0 (requestsIn r) .outcome ≡ Done
+    → roomTests (tableOf m) 0 (requestsIn r) .outcome ≡ Done → TookIn (tableOf m) (requestsIn r) taken → Storable m r taken
+storable m r taken o w own room took =
+    let t : Table = tableOf m in
+    let T : Table = roomTests t 0 (requestsIn r) .after in
+    let c : ℕ = length r / 24 in
+    let g : Good t = holds m o w .0 in
+    let l : Laid m t = holds m o w .1 in
+    let k4 : two m 4 ≡ t .capacity = l .is-k in
+    let k6 : two m 6 ≡ length (t .stations) = l .is-s in
+    let k8 : two m 8 ≡ total held (t .stations) = l .is-n in
+    let ready : Ready t (requestsIn r) = own-tests-ready t [] 0 (requestsIn r) own .0 in
+    let n = batch-numbers r t 0 0 c g ready room in
+    let cap : T .capacity ≡ t .capacity = n .1 in
+    let more : total held (T .stations) ≡ total held (t .stations) + c = n .2 in
+    let most : total held (T .stations) ≤ T .capacity = n .0 .few in
+    let high : t .capacity ≤ 4096 = g .k-high in
+    let fits : total held (t .stations) + c ≤ t .capacity = omega arith in
+    let few : 0 + c ≤ 4096 = omega arith in
+    let apart = apart-all r t 0 0 c refl few ready in
+    let rest : List ℕ = drop (length (image t)) m in
+    let read : placedFrom m 64 (two m 8) ≡ flat (t .stations) = ap (placedFrom m 64) k8 ∙ flat-read m 64 (t .stations) (l .places) in
+    let places : octetsOf (joined (placedOf r) (placedFrom m 64 (two m 8)) (sorted (numbersFrom r 0 c))) ≡ bodies (T .stations) =
+    ap octetsOf (ap (λ (x : List Placed). joined (placedOf r) x (sorted (numbersFrom r 0 c))) read ∙ join-sorted (placedOf r) (flat (t .stations)) (numbersFrom r 0 c) apart
+    ∙ sym (batch-places r t 0 0 c refl few g ready room apart)) ∙ flat-octets (T .stations) in
+    let is-image : m ≡ image t ++ rest = printed m o (passed m w) in
+    let new : merged m r ≡ over (image t ++ rest) 64 (bodies (T .stations)) = ap₂ (λ (x y : List ℕ). over x 64 y) is-image places in
+    let lines = took room in
+    let whole : 64 + 48 * two m 4 + 8 * two m 6 ≤ length m = passed m w .top .room in
+    let room-records : 24 * (0 + c) ≤ length r = omega arith in
+    let raises : Raisable (over (image t ++ rest) 64 (bodies (T .stations))) taken 0 (64 + 48 * t .capacity) (length (t .stations)) =
+    stored-raisable (t .capacity) (total held (t .stations)) c (t .stations) (T .stations) rest refl more fits taken 1 high lines (ap (λ (x : ℕ). planOk x 1 (T .stations)) (sym cap) ∙ n .0 .plan) in
+    let image-is = stored-image (t .capacity) (total held (t .stations)) c (t .stations) (T .stations) rest refl more fits taken lines in
     record {
-      table = tableOf m;
-      rest = drop (length (image (tableOf m))) m;
-      is-image = printed m o (passed m w);
-      good = holds m o w .0;
-      ready = subst (Ready (tableOf m)) q (own-tests-ready (tableOf m) [] 0 (requestsIn r) own .0);
-      room = ap (λ (l : List Request). roomTests (tableOf m) 0 l .outcome) (sym q) ∙ room;
-      whole = ap (λ (l : List Request). image (roomTests (tableOf m) 0 l .after) ++ drop (length (image (tableOf m))) m) (sym q);
+      stations = passed m w .top .s-high;
+      length-is = whole;
+      capacity = passed m w .top .k-high;
+      free = omega arith;
+      rises = subst (Rises 0) (sym read) (flat-rises (t .capacity) (t .stations) (plan-of _ _ _ (g .plan) .0) (g .rises));
+      records = fits-all r t 0 0 c refl few room-records ready;
+      raisable = subst (λ (x : ℕ). Raisable (merged m r) taken 0 (64 + 48 * two m 4) x) (sym k6)
+          (subst (λ (x : ℕ). Raisable (merged m r) taken 0 (64 + 48 * x) (length (t .stations))) (sym k4)
+          (subst (λ (x : List ℕ). Raisable x taken 0 (64 + 48 * t .capacity) (length (t .stations))) (sym new) raises));
+      memory = (λ j. over (raised (new j) taken 0 (64 + 48 * k4 j) (k6 j)) 8 (pair (k8 j + c)))
+          ∙ image-is
+          ∙ (λ j. image (record { capacity = sym cap j; stations = T .stations }) ++ rest);
     }
-
-module _ (target r m : List ℕ) (n i : ℕ) (z : Storing target r m n i) (h : i < n) where
-  parts : Passes (z .table) (requestAt r (24 * i)) × AllApart (requestAt r (24 * i)) (requestsAt r (24 * (i + 1)) (n - (i + 1))) × Ready (z .table) (requestsAt r (24 * (i + 1)) (n - (i + 1)))
-  parts = ready-first _ _ _ (subst (Ready (z .table)) (requests-on r i n h) (z .ready))
-
-  goes-on : (roomFault (z .table) (stationOf (two r (24 * i)) (z .table .stations)) ≡ Done)
-      × (roomTests (z .table) i (requestAt r (24 * i) ∷ requestsAt r (24 * (i + 1)) (n - (i + 1))) ≡ roomTests (withRequest (z .table) (requestAt r (24 * i))) (i + 1) (requestsAt r (24 * (i + 1)) (n - (i + 1))))
-  goes-on = room-first (z .table) i (requestAt r (24 * i)) (requestsAt r (24 * (i + 1)) (n - (i + 1)))
-      (ap (λ (l : List Request). roomTests (z .table) i l .outcome) (sym (requests-on r i n h)) ∙ z .room)
-
-  -- What the storing of the next record asks.
-  pub storing-asks : (wellFormed m ≡ true) × (registering (requestAt r (24 * i)) (tableOf m) .outcome ≡ Done)
-  storing-asks =
-      let x = holds-image m (z .rest) (z .table) (z .is-image) (z .good) in
-      (x .0, ap (λ (u : Table). registering (requestAt r (24 * i)) u .outcome) (x .1) ∙ is-faultless (z .table) (requestAt r (24 * i)) (parts .0) (goes-on .0))
-
-  -- With the record stored the next one has its turn.
-  pub storing-on : (later : List ℕ) → later ≡ holding m (tableOf m) (withRequest (tableOf m) (requestAt r (24 * i))) → Storing target r later n (i + 1)
-  storing-on later e =
-      let x = holds-image m (z .rest) (z .table) (z .is-image) (z .good) in
-      let Q : Request = requestAt r (24 * i) in
-      let qs : List Request = requestsAt r (24 * (i + 1)) (n - (i + 1)) in
-      let a : Accepted (z .table) Q = passes-accepted (z .table) Q refl (parts .0) (goes-on .0) in
-      let whole : roomTests (z .table) i (requestsAt r (24 * i) (n - i)) ≡ roomTests (withRequest (z .table) Q) (i + 1) qs = ap (roomTests (z .table) i) (requests-on r i n h) ∙ goes-on .1 in
-      record {
-        table = withRequest (z .table) Q;
-        rest = z .rest;
-        is-image = e ∙ ap (λ (u : Table). image (withRequest u Q) ++ drop (length (image u)) m) (x .1) ∙ ap (λ (l : List ℕ). image (withRequest (z .table) Q) ++ l) (x .2);
-        good = accepted-good (z .table) Q (z .good) a;
-        ready = ready-after (z .table) Q (a .station) qs (a .found) (parts .1) (parts .2);
-        room = ap (λ (f : Effect). f .outcome) (sym whole) ∙ z .room;
-        whole = ap (λ (f : Effect). image (f .after) ++ z .rest) (sym whole) ∙ z .whole;
-      }
-
--- No record is left: the memory is the target.
-pub storing-end : (target r m : List ℕ) (n i : ℕ) → Storing target r m n i → n ≤ i → m ≡ target
-unfolding roomTests
-storing-end target r m n i z h =
-    z .is-image ∙ ap (λ (l : List Request). image (roomTests (z .table) i l .after) ++ z .rest) (sym (requests-end r i n h)) ∙ z .whole

@@ -1,51 +1,51 @@
 // The registration of a batch of points: every point's own tests, then the share rule, then all are stored, or none. From `actor.rs`.
 use limits::outcome::Outcome;
 use registry::Reply;
-use seats::Seat;
-use seats::Spot;
 ghost use mathlib.Core.Path.{_≡_};
 ghost use mathlib.Core.Bool.{true};
 ghost use mathlib.Core.List.{[]};
 ghost use Prim.Native.Nat.{_+_, _*_, _≤_, _<_};
 ghost use lib.ListN.{length};
 ghost use Rattle.limits.specs.declared.outcome.Outcome.the-variants.{Done};
-ghost use Rattle.model.specs.Request.{requestAt};
 ghost use Rattle.table.specs.Memory.{wellFormed, tableOf};
 ghost use Rattle.records.specs.Records.{requestsIn};
+ghost use Rattle.batch_room.specs.Room.{TookIn};
+ghost use Rattle.batch.specs.Raise.{raised, Raisable};
 ghost use Rattle.registry.specs.Effect.{replyOn, memoryOn, holding};
-ghost use Rattle.registry.specs.Registry.{withRequest, registering, ownTests, roomTests, registeringAll};
+ghost use Rattle.registry.specs.Registry.{ownTests, roomTests, registeringAll};
 
-// Stores the point of the record at `at`, whose registration has no fault.
-fn store_one(m: &mut [u8], records: &[u8], at: usize)
-    requires { ⌜ (wellFormed (now m) ≡ true) × (at + 24 ≤ length (now records)) × (registering (requestAt (now records) at) (tableOf (now m)) .outcome ≡ Done) ⌝ }
-    ensures { λ _. ⌜ now (m .exit) ≡ holding (now (m .entry)) (tableOf (now (m .entry))) (withRequest (tableOf (now (m .entry))) (requestAt (now (records .entry)) at)) ⌝ }
+// A number of 16 bits as a count.
+fn wide16(x: u16) -> usize
+    ensures { λ r. ⌜ r ≡ x ⌝ }
 {
-    let request = model::request_at(records, at);
-    let ca = octets::two_at(records, at);
-    let ioa = octets::four_at(records, at + 2);
-    let seat = seats::seat_at(m, ca);
-    let Seat::Here(index, first, held) = seat else {
-        return;
-    };
-    let spot = seats::find(m, first, held, ioa);
-    let Spot::Missing(place) = spot else {
-        return;
-    };
-    let point = model::point_of(request);
-    insert::insert(m, ca, point, index, held, place);
+    x as usize
 }
 
-// Stores the points of all records, which have passed every test.
-fn store_all(m: &mut [u8], records: &[u8])
-    requires { ⌜ (wellFormed (now m) ≡ true) × (ownTests (tableOf (now m)) [] 0 (requestsIn (now records)) .outcome ≡ Done) × (roomTests (tableOf (now m)) 0 (requestsIn (now records)) .outcome ≡ Done) ⌝ }
-    ensures { λ _. ⌜ now (m .exit) ≡ holding (now (m .entry)) (tableOf (now (m .entry))) (roomTests (tableOf (now (m .entry))) 0 (requestsIn (now (records .entry))) .after) ⌝ }
+// Adds to what each of the n stations from `at` holds what it took in.
+fn raise_held(m: &mut [u8], taken: &[u16; 64], at: usize, n: usize)
+    requires { ⌜ (n ≤ 64) × (at + 8 * n ≤ length (now m)) × Raisable (now m) (now taken) 0 at n ⌝ }
+    ensures { λ _. ⌜ now (m .exit) ≡ raised (now (m .entry)) (now (taken .entry)) 0 at n ⌝ }
 {
-    let n = records.len() / 24;
     let mut i: usize = 0;
     while i < n {
-        store_one(m, records, 24 * i);
+        let to = at + 8 * i + 6;
+        let held = octets::two_at(m, to);
+        octets::put_two(m, to, held + wide16(taken[i]));
         i += 1;
     }
+}
+
+// Stores the points of all records, which have passed every test; `taken` has what each station takes in.
+fn store_all(m: &mut [u8], records: &[u8], taken: &[u16; 64])
+    requires { ⌜ (wellFormed (now m) ≡ true) × (ownTests (tableOf (now m)) [] 0 (requestsIn (now records)) .outcome ≡ Done) × (roomTests (tableOf (now m)) 0 (requestsIn (now records)) .outcome ≡ Done) × TookIn (tableOf (now m)) (requestsIn (now records)) (now taken) ⌝ }
+    ensures { λ _. ⌜ now (m .exit) ≡ holding (now (m .entry)) (tableOf (now (m .entry))) (roomTests (tableOf (now (m .entry))) 0 (requestsIn (now (records .entry))) .after) ⌝ }
+{
+    let k = octets::two_at(m, 4);
+    let stations = octets::two_at(m, 6);
+    let n = octets::two_at(m, 8);
+    merging::merge(m, records, n);
+    raise_held(m, taken, 64 + 48 * k, stations);
+    octets::put_two(m, 8, n + records.len() / 24);
 }
 
 // Registers a batch of points, given as flat records: 3, then 11 to 17 of each in list order, then 19 and 20; all or none.
@@ -63,11 +63,12 @@ pub fn register_points(table: &mut [u8], records: &[u8]) -> Reply
     if !fault.is_done() {
         return own;
     }
-    let room = batch_room::room_tests(table, records);
+    let mut taken = [0u16; 64];
+    let room = batch_room::room_tests(table, records, &mut taken);
     let refusal = room.outcome;
     if !refusal.is_done() {
         return room;
     }
-    store_all(table, records);
+    store_all(table, records, &taken);
     room
 }

@@ -14,15 +14,16 @@ use Rattle.limits.specs.Share.{heldOf, unmetOf, takenIn, admissionOf}
 use Rattle.limits.specs.declared.share.Share.{Share}
 use Rattle.limits.specs.declared.outcome.Outcome.{Outcome}
 use Rattle.limits.specs.declared.outcome.Outcome.the-variants.{Done, StationNotPlanned}
-use Rattle.limits.proofs.Outcomes.{done-is}
+use Rattle.limits.proofs.Outcomes.{done-is, not-both}
 use Rattle.limits.proofs.Shares.{unmet-is, admitted-only}
 use Rattle.octets.specs.Number.{two}
 use Rattle.model.specs.declared.Point.{Point}
 use Rattle.model.specs.declared.Request.{Request}
 use Rattle.model.specs.Request.{pointOf, requestsAt}
 use Rattle.table.specs.Table.{Station, Table, held, unmet, shareOf}
-use Rattle.table.specs.Memory.{tableOf, sumAt, heldAt, unmetAt}
+use Rattle.table.specs.Memory.{pointsAt, stationsAt, tableOf, sumAt, heldAt, unmetAt}
 use Rattle.table.specs.Change.{stationOf, inStation, withPoints, changed, insertIn, added}
+use Rattle.table.proofs.Points.{length-pointsAt}
 use Rattle.table.proofs.Stations.{sum-held, sum-unmet}
 use Rattle.table.proofs.Shares.{total-held, total-unmet}
 use Rattle.table.proofs.Change.{station-found, stations-split, insert-length}
@@ -33,11 +34,11 @@ use Rattle.seats.specs.Seats.{seatIn, seatAt}
 use Rattle.registry.specs.declared.Reply.{Reply}
 use Rattle.registry.specs.Effect.{Effect, refused}
 use Rattle.registry.specs.Registry.{admissionOutcome, roomFault, withRequest, roomTests}
-use Rattle.registry.specs.History.{holdingOf}
+use Rattle.registry.specs.History.{Holding, holdingOf}
 use Rattle.registry.proofs.Requests.{admitted-is}
 use Rattle.records.proofs.Laws.{requests-on, requests-end}
 use Rattle.batch_room.specs.declared.Standing.{Standing}
-use Rattle.batch_room.specs.Room.{roomReply, shareWith, standingOf, stationAt, standingAt, takenAt, roomRun}
+use Rattle.batch_room.specs.Room.{roomReply, shareWith, standingOf, stationAt, standingAt, takenAt, roomRun, takenRun, holdingWith, TookIn}
 use Rattle.batch_room.proofs.Lines.{linesAt, lines-start, Asked, asked, not-asked}
 
 -- ---- one turn in memory
@@ -113,6 +114,29 @@ module _ (m taken r : List ℕ) (free unmet i n : ℕ) where
         ap (roomRun m taken free unmet i) (requests-on r i n h)
         ∙ (simp z)
         ∙ (λ k. record { outcome = sym e k .outcome; place = i })
+
+    pub taken-on : (later : List ℕ) → later ≡ takenAt m taken (seatAt m (two r (24 * i))) free unmet → isDone (s .outcome) ≡ true
+        → takenRun m taken free unmet (requestsAt r (24 * i) (n - i)) ≡ takenRun m later (s .free) (s .unmet) (requestsAt r (24 * (i + 1)) (n - (i + 1)))
+    unfolding takenRun
+    taken-on later f d =
+        let z : isDone (standingAt m taken (seatAt m (two r (24 * i))) free unmet .outcome) ≡ true = ap (λ (y : Standing). isDone (y .outcome)) (sym e) ∙ d in
+        ap (takenRun m taken free unmet) (requests-on r i n h)
+        ∙ (simp z)
+        ∙ (λ k. takenRun m (sym f k) (sym e k .free) (sym e k .unmet) (requestsAt r (24 * (i + 1)) (n - (i + 1))))
+
+    pub taken-stop : isDone (s .outcome) ≡ false
+        → takenRun m taken free unmet (requestsAt r (24 * i) (n - i)) ≡ takenAt m taken (seatAt m (two r (24 * i))) free unmet
+    unfolding takenRun
+    taken-stop d =
+        let z : isDone (standingAt m taken (seatAt m (two r (24 * i))) free unmet .outcome) ≡ false = ap (λ (y : Standing). isDone (y .outcome)) (sym e) ∙ d in
+        ap (takenRun m taken free unmet) (requests-on r i n h) ∙ (simp z)
+
+  pub taken-start : takenRun m taken free unmet (requestsAt r 0 n) ≡ takenRun m taken free unmet (requestsAt r (24 * 0) (n - 0))
+  taken-start = let e : n ≡ n - 0 = omega arith in ap (λ (x : ℕ). takenRun m taken free unmet (requestsAt r 0 x)) e
+
+  pub taken-end : n ≤ i → takenRun m taken free unmet (requestsAt r (24 * i) (n - i)) ≡ taken
+  unfolding takenRun
+  taken-end h = ap (takenRun m taken free unmet) (requests-end r i n h)
 
   pub run-end : n ≤ i → roomRun m taken free unmet i (requestsAt r (24 * i) (n - i)) ≡ record { outcome = Done; place = 0 }
   unfolding roomRun
@@ -224,6 +248,11 @@ none-left : (i : ℕ) (t : Table) → record { outcome = Done; place = 0 } ≡ r
 unfolding roomTests replyOf
 none-left i t = refl
 
+none-more : (m taken : List ℕ) (t : Table) (i : ℕ) → map holdingOf (t .stations) ≡ linesAt m taken 0 (64 + 48 * two m 4) (two m 6)
+    → map holdingOf (roomTests t i [] .after .stations) ≡ linesAt m taken 0 (64 + 48 * two m 4) (two m 6)
+unfolding roomTests
+none-more m taken t i e = e
+
 -- the turn of a request by its seat
 turn-law : (m taken : List ℕ) (free unmet′ i : ℕ) (t : Table) (q : Request) (qs : List Request) (s : Seat) → Along m taken free unmet′ t → seatAt m (q .ca) ≡ s
     → ((taken : List ℕ) (free unmet′ : ℕ) → Along m taken free unmet′ (withRequest t q)
@@ -248,25 +277,92 @@ run-law m [] taken free unmet′ i t a = none-left i t
 run-law m (q ∷ qs) taken free unmet′ i t a =
     turn-law m taken free unmet′ i t q qs (seatAt m (q .ca)) a refl (λ taken free unmet′ b. run-law m qs taken free unmet′ (i + 1) (withRequest t q) b)
 
--- The share rule over a batch, from the sums of a table's memory on.
-pub room-law : (m taken : List ℕ) (free unmet′ : ℕ) (qs : List Request) → ((j : ℕ) → getD taken j 0 ≡ 0) → two m 6 ≤ length taken
+-- ---- what each station took in
+
+-- the first request of those that have room has room, and the others go on from the table with its point
+pub room-first : (t : Table) (i : ℕ) (q : Request) (qs : List Request) → roomTests t i (q ∷ qs) .outcome ≡ Done
+    → (roomFault t (stationOf (q .ca) (t .stations)) ≡ Done) × (roomTests t i (q ∷ qs) ≡ roomTests (withRequest t q) (i + 1) qs)
+unfolding roomTests
+room-first t i q qs e = by-test (isDone (roomFault t (stationOf (q .ca) (t .stations)))) refl e
+  where
+    by-test : (b : Bool) → isDone (roomFault t (stationOf (q .ca) (t .stations))) ≡ b
+        → pick b (roomTests (withRequest t q) (i + 1) qs) (refused (roomFault t (stationOf (q .ca) (t .stations))) i t) .outcome ≡ Done
+        → (roomFault t (stationOf (q .ca) (t .stations)) ≡ Done)
+        × (pick b (roomTests (withRequest t q) (i + 1) qs) (refused (roomFault t (stationOf (q .ca) (t .stations))) i t) ≡ roomTests (withRequest t q) (i + 1) qs)
+    by-test true d f = (done-is _ d, refl)
+    by-test false d f = not-both (sym d ∙ ap isDone f)
+
+-- the turn of a request by its seat
+turn-taken : (m taken : List ℕ) (free unmet′ : ℕ) (t : Table) (q : Request) (qs : List Request) (goal : List Holding) (s : Seat) → Along m taken free unmet′ t
+    → seatAt m (q .ca) ≡ s → roomFault t (stationOf (q .ca) (t .stations)) ≡ Done
+    → ((taken : List ℕ) (free unmet′ : ℕ) → Along m taken free unmet′ (withRequest t q)
+    → goal ≡ linesAt m (takenRun m taken free unmet′ qs) 0 (64 + 48 * two m 4) (two m 6))
+    → goal ≡ linesAt m (pick (isDone (standingAt m taken s free unmet′ .outcome))
+    (takenRun m (takenAt m taken s free unmet′) (standingAt m taken s free unmet′ .free) (standingAt m taken s free unmet′ .unmet) qs)
+    (takenAt m taken s free unmet′)) 0 (64 + 48 * two m 4) (two m 6)
+unfolding standingAt takenAt
+turn-taken m taken free unmet′ t q qs goal (Here j first h) a e r again =
+    let d : isDone (standingOf (shareWith m (stationAt m j) (getD taken j 0)) free unmet′ .outcome) ≡ true =
+    ap isDone (same-fault m taken free unmet′ t (q .ca) (Here j first h) a e ∙ r) in
+    again _ _ _ (along-on m taken free unmet′ t q j first h a e d) ∙ sym (simp d)
+turn-taken m taken free unmet′ t q qs goal NotPlanned a e r again =
+    not-both (ap isDone (same-fault m taken free unmet′ t (q .ca) NotPlanned a e ∙ r))
+
+run-taken : (m : List ℕ) (qs : List Request) (taken : List ℕ) (free unmet′ i : ℕ) (t : Table) → Along m taken free unmet′ t → roomTests t i qs .outcome ≡ Done
+    → map holdingOf (roomTests t i qs .after .stations) ≡ linesAt m (takenRun m taken free unmet′ qs) 0 (64 + 48 * two m 4) (two m 6)
+unfolding takenRun
+run-taken m [] taken free unmet′ i t a d = none-more m taken t i (a .lines)
+run-taken m (q ∷ qs) taken free unmet′ i t a d =
+    let f = room-first t i q qs d in
+    turn-taken m taken free unmet′ t q qs (map holdingOf (roomTests t i (q ∷ qs) .after .stations)) (seatAt m (q .ca)) a refl (f .0)
+    (λ taken free unmet′ b. ap (λ (x : Effect). map holdingOf (x .after .stations)) (f .1)
+    ∙ run-taken m qs taken free unmet′ (i + 1) (withRequest t q) b (ap (λ (x : Effect). x .outcome) (sym (f .1)) ∙ d))
+
+-- Before the first turn all of it goes along with the table that the memory holds.
+room-along : (m taken : List ℕ) (free unmet′ : ℕ) → ((j : ℕ) → getD taken j 0 ≡ 0) → two m 6 ≤ length taken
     → free ≡ two m 4 - sumAt heldAt m (64 + 48 * two m 4) (two m 6) → unmet′ ≡ sumAt unmetAt m (64 + 48 * two m 4) (two m 6)
-    → roomRun m taken free unmet′ 0 qs ≡ roomReply (tableOf m) qs
-unfolding roomReply tableOf replyOf
-room-law m taken free unmet′ qs z l f u =
-    run-law m qs taken free unmet′ 0 (tableOf m)
-    (record {
+    → Along m taken free unmet′ (tableOf m)
+unfolding tableOf
+room-along m taken free unmet′ z l f u =
+    record {
       lines = lines-start m taken 0 64 (64 + 48 * two m 4) (two m 6) z;
       is-free = f ∙ ap (λ (x : ℕ). two m 4 - x) (sym (sum-held m 64 (64 + 48 * two m 4) (two m 6)));
       is-unmet = u ∙ sym (sum-unmet m 64 (64 + 48 * two m 4) (two m 6));
       room = l;
-    })
+    }
+
+-- The share rule over a batch, from the sums of a table's memory on.
+pub room-law : (m taken : List ℕ) (free unmet′ : ℕ) (qs : List Request) → ((j : ℕ) → getD taken j 0 ≡ 0) → two m 6 ≤ length taken
+    → free ≡ two m 4 - sumAt heldAt m (64 + 48 * two m 4) (two m 6) → unmet′ ≡ sumAt unmetAt m (64 + 48 * two m 4) (two m 6)
+    → roomRun m taken free unmet′ 0 qs ≡ roomReply (tableOf m) qs
+unfolding roomReply replyOf
+room-law m taken free unmet′ qs z l f u = run-law m qs taken free unmet′ 0 (tableOf m) (room-along m taken free unmet′ z l f u)
+
+-- the lines in memory are those of the stations read
+lines-are : (m taken : List ℕ) (i pb sb n : ℕ) → linesAt m taken i sb n ≡ holdingWith (stationsAt m pb sb n) taken i
+unfolding linesAt stationsAt holdingWith
+lines-are m taken i pb sb zero = refl
+lines-are m taken i pb sb (suc n) =
+    let h : two m (sb + 6) ≡ length (pointsAt m pb (two m (sb + 6))) = sym (length-pointsAt m pb (two m (sb + 6))) in
+    let ih = lines-are m taken (i + 1) (pb + 48 * two m (sb + 6)) (sb + 8) n in
+    λ j. record { ca = two m sb; reservation = two m (sb + 2); ceiling = two m (sb + 4); held = h j + getD taken i 0 } ∷ ih j
 
 -- nothing taken in
 none-taken : (n j : ℕ) → getD (replicate {A = ℕ} n 0) j 0 ≡ 0
 none-taken zero j = refl
 none-taken (suc n) zero = refl
 none-taken (suc n) (suc j) = none-taken n j
+
+-- What each station took in, where none had taken in anything before.
+pub took-in : (m : List ℕ) (free unmet′ : ℕ) (qs : List Request) (taken : List ℕ) → two m 6 ≤ 64
+    → free ≡ two m 4 - sumAt heldAt m (64 + 48 * two m 4) (two m 6) → unmet′ ≡ sumAt unmetAt m (64 + 48 * two m 4) (two m 6)
+    → taken ≡ takenRun m (replicate 64 0) free unmet′ qs → TookIn (tableOf m) qs taken
+unfolding tableOf
+took-in m free unmet′ qs taken l f u e d =
+    let n : length (replicate {A = ℕ} 64 0) ≡ 64 = length-replicate {A = ℕ} 64 0 in
+    run-taken m qs (replicate 64 0) free unmet′ 0 (tableOf m) (room-along m (replicate 64 0) free unmet′ (none-taken 64) (omega arith) f u) d
+    ∙ ap (λ (x : List ℕ). linesAt m x 0 (64 + 48 * two m 4) (two m 6)) (sym e)
+    ∙ lines-are m taken 0 64 (64 + 48 * two m 4) (two m 6)
 
 -- The share rule over a batch, where no station has taken in anything yet.
 pub room-fresh : (m : List ℕ) (free unmet′ : ℕ) (qs : List Request) → two m 6 ≤ 64

@@ -1,7 +1,8 @@
 -- The share rule over a batch: the answer, and below the line the turns as the code takes them.
 -- Document 01, 'Points, stations and shares': then the share rule as if registered one by one.
 use Prim.Native.Nat.{ℕ, _+_, _*_, _-_}
-use mathlib.Core.List.{List, [], _∷_}
+use mathlib.Core.Path.{_≡_}
+use mathlib.Core.List.{List, [], _∷_, map}
 use lib.ListN.{getD, set}
 use Rattle.limits.specs.Test.{pick}
 use Rattle.limits.specs.Share.{unmetOf, takenIn, admissionOf}
@@ -13,14 +14,25 @@ use Rattle.model.specs.declared.Request.{Request}
 use Rattle.seats.specs.declared.Seat.{Seat}
 use Rattle.seats.specs.declared.Seat.the-variants.{Here, NotPlanned}
 use Rattle.seats.specs.Seats.{seatAt}
-use Rattle.table.specs.Table.{Table}
+use Rattle.table.specs.Table.{Station, Table, held}
 use Rattle.registry.specs.declared.Reply.{Reply}
 use Rattle.registry.specs.Registry.{admissionOutcome, roomTests}
+use Rattle.registry.specs.History.{Holding, holdingOf}
 use Rattle.batch_room.specs.declared.Standing.{Standing}
 
 -- What the share rule answers to a batch: Done, or the first point that has no room, counted from 0.
 unfoldable pub roomReply : Table → List Request → Reply
 roomReply t qs = record { outcome = roomTests t 0 qs .outcome; place = roomTests t 0 qs .place }
+
+-- What stations hold with what each took in besides, the first of them having index i.
+unfoldable pub holdingWith : List Station → List ℕ → ℕ → List Holding
+holdingWith [] taken i = []
+holdingWith (s ∷ ss) taken i =
+    record { ca = s .ca; reservation = s .reservation; ceiling = s .ceiling; held = held s + getD taken i 0 } ∷ holdingWith ss taken (i + 1)
+
+-- Where a batch has room, what each station took in is what it holds more afterwards.
+abbrev pub TookIn : Table → List Request → List ℕ → Type 0
+TookIn t qs taken = roomTests t 0 qs .outcome ≡ Done → map holdingOf (roomTests t 0 qs .after .stations) ≡ holdingWith (t .stations) taken 0
 
 -- ---- as the code runs: nobody need believe what follows, `room-law` ties it to `roomReply`
 
@@ -56,3 +68,12 @@ roomRun m taken free unmet i (q ∷ qs) =
     (roomRun m (takenAt m taken (seatAt m (q .ca)) free unmet) (standingAt m taken (seatAt m (q .ca)) free unmet .free)
     (standingAt m taken (seatAt m (q .ca)) free unmet .unmet) (i + 1) qs)
     (record { outcome = standingAt m taken (seatAt m (q .ca)) free unmet .outcome; place = i })
+
+-- what the stations have taken in after those turns
+unfoldable pub takenRun : List ℕ → List ℕ → ℕ → ℕ → List Request → List ℕ
+takenRun m taken free unmet [] = taken
+takenRun m taken free unmet (q ∷ qs) =
+    pick (isDone (standingAt m taken (seatAt m (q .ca)) free unmet .outcome))
+    (takenRun m (takenAt m taken (seatAt m (q .ca)) free unmet) (standingAt m taken (seatAt m (q .ca)) free unmet .free)
+    (standingAt m taken (seatAt m (q .ca)) free unmet .unmet) qs)
+    (takenAt m taken (seatAt m (q .ca)) free unmet)

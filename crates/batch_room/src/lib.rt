@@ -6,16 +6,16 @@ use registry::Reply;
 use seats::Seat;
 ghost use mathlib.Core.Path.{_≡_};
 ghost use Prim.Native.Nat.{_+_, _*_, _-_, _≤_, _<_};
-ghost use lib.ListN.{length};
+ghost use lib.ListN.{length, replicate};
 ghost use Rattle.octets.specs.Number.{two};
 ghost use Rattle.records.specs.Records.{requestsIn};
 ghost use Rattle.seats.specs.Seats.{seatAt};
 ghost use Rattle.table.specs.Memory.{tableOf};
 ghost use Rattle.registry.specs.Registry.{admissionOutcome};
-ghost use Rattle.batch_room.specs.Room.{shareWith, standingOf, standingAt, takenAt, roomRun, roomReply};
+ghost use Rattle.batch_room.specs.Room.{shareWith, standingOf, standingAt, takenAt, roomRun, takenRun, roomReply, TookIn};
 
 // The most stations of a plan.
-const STATIONS: usize = 64;
+pub const STATIONS: usize = 64;
 
 // What a request is answered for room, and what is free and unmet after it.
 pub struct Standing {
@@ -103,7 +103,7 @@ fn turn(m: &[u8], taken: &mut [u16; STATIONS], ca: usize, free: usize, unmet: us
 // The turns of all records, from what is free and unmet before the first.
 fn turns(m: &[u8], records: &[u8], taken: &mut [u16; STATIONS], free: usize, unmet: usize) -> Reply
     requires { ⌜ (two (now m) 6 ≤ 64) × (64 + 48 * two (now m) 4 + 8 * two (now m) 6 ≤ length (now m)) ⌝ }
-    ensures { λ r. ⌜ r ≡ roomRun (now (m .entry)) (now (taken .entry)) free unmet 0 (requestsIn (now (records .entry))) ⌝ }
+    ensures { λ r. ⌜ (r ≡ roomRun (now (m .entry)) (now (taken .entry)) free unmet 0 (requestsIn (now (records .entry)))) × (now (taken .exit) ≡ takenRun (now (m .entry)) (now (taken .entry)) free unmet (requestsIn (now (records .entry)))) ⌝ }
 {
     let n = records.len() / 24;
     let mut free_now = free;
@@ -129,14 +129,13 @@ fn turns(m: &[u8], records: &[u8], taken: &mut [u16; STATIONS], free: usize, unm
     }
 }
 
-// The share rule over a batch: done, or the first point that has no room.
-pub fn room_tests(m: &[u8], records: &[u8]) -> Reply
-    requires { ⌜ (two (now m) 6 ≤ 64) × (64 + 48 * two (now m) 4 + 8 * two (now m) 6 ≤ length (now m)) ⌝ }
-    ensures { λ r. ⌜ r ≡ roomReply (tableOf (now (m .entry))) (requestsIn (now (records .entry))) ⌝ }
+// The share rule over a batch: done, or the first point that has no room. `taken`, which has nothing yet, tells what each station took in.
+pub fn room_tests(m: &[u8], records: &[u8], taken: &mut [u16; STATIONS]) -> Reply
+    requires { ⌜ (two (now m) 6 ≤ 64) × (64 + 48 * two (now m) 4 + 8 * two (now m) 6 ≤ length (now m)) × (now taken ≡ replicate 64 0) ⌝ }
+    ensures { λ r. ⌜ (r ≡ roomReply (tableOf (now (m .entry))) (requestsIn (now (records .entry)))) × TookIn (tableOf (now (m .entry))) (requestsIn (now (records .entry))) (now (taken .exit)) ⌝ }
 {
     let k = octets::two_at(m, 4);
     let n = octets::two_at(m, 6);
     let sums = wellformed::add_up(m, 64 + 48 * k, n);
-    let mut taken = [0u16; STATIONS];
-    turns(m, records, &mut taken, without(k, sums.held), sums.unmet)
+    turns(m, records, taken, without(k, sums.held), sums.unmet)
 }

@@ -1,7 +1,7 @@
 -- The entry's four ways out are the four cases of the effect of a batch. Assumes nothing.
 use borrow.Author.Needs.{needs}
 use borrow.Author.Tests.{not-true, not-false}
-use mathlib.Core.Path.{_≡_, sym, ap, _∙_}
+use mathlib.Core.Path.{_≡_, refl, sym, ap, _∙_}
 use mathlib.Core.List.{[]}
 use mathlib.Core.Bool.{true, false}
 use denote.Ref.{now}
@@ -45,12 +45,12 @@ returns-2 c =
 
 room-tests-requires : tie.Need-room-tests-requires
 room-tests-requires c κs =
-    let a = c .before .before .before .before .before .before .before .before .before .before .args in
+    let a = c .before .before .before .before .before .before .before .before .before .before .before .args in
     let m = now (a .table) in
     let qs = requestsIn (now (a .records)) in
-    let w : wellFormed m ≡ true = sym (c .before .before .before .before .before .before .well-formed .ensures) ∙ not-false _ (c .before .before .before .before .before .if1 .left) in
+    let w : wellFormed m ≡ true = sym (c .before .before .before .before .before .before .before .well-formed .ensures) ∙ not-false _ (c .before .before .before .before .before .before .if1 .left) in
     let t = passed m w .top in
-    (t .s-high, t .room)
+    (t .s-high, t .room, refl)
 
 is-done-requires-2 : tie.Need-is-done-requires-2
 is-done-requires-2 c κs = search needs
@@ -60,39 +60,39 @@ same-length-3 c = search needs
 
 returns-3 : tie.Need-returns-3
 returns-3 c =
-    let a = c .before .before .before .before .before .before .before .before .before .before .before .before .before .args in
-    let m = now (a .table) in
-    let qs = requestsIn (now (a .records)) in
-    let w : wellFormed m ≡ true = sym (c .before .before .before .before .before .before .before .before .before .well-formed .ensures) ∙ not-false _ (c .before .before .before .before .before .before .before .before .if1 .left) in
-    let p : isDone (c .before .before .before .before .before .before .own-tests .result .outcome) ≡ true = sym (c .before .before .before .before .before .is-done .ensures) ∙ not-false _ (c .before .before .before .before .if2 .left) in
-    let d : isDone (ownTests (tableOf m) [] 0 qs .outcome) ≡ true = ap (λ (y : Reply). isDone (y .outcome)) (sym (c .before .before .before .before .before .before .own-tests .ensures)) ∙ p in
-    let x : isDone (c .before .before .room-tests .result .outcome) ≡ false = sym (c .before .is-done2 .ensures) ∙ not-true _ (c .if3 .taken) in
-    room-refusal m w qs d (c .before .before .room-tests .result) (c .before .before .room-tests .ensures) x
-
-store-all-requires : tie.Need-store-all-requires
-store-all-requires c κs =
     let a = c .before .before .before .before .before .before .before .before .before .before .before .before .before .before .args in
     let m = now (a .table) in
     let qs = requestsIn (now (a .records)) in
     let w : wellFormed m ≡ true = sym (c .before .before .before .before .before .before .before .before .before .before .well-formed .ensures) ∙ not-false _ (c .before .before .before .before .before .before .before .before .before .if1 .left) in
     let p : isDone (c .before .before .before .before .before .before .before .own-tests .result .outcome) ≡ true = sym (c .before .before .before .before .before .before .is-done .ensures) ∙ not-false _ (c .before .before .before .before .before .if2 .left) in
     let d : isDone (ownTests (tableOf m) [] 0 qs .outcome) ≡ true = ap (λ (y : Reply). isDone (y .outcome)) (sym (c .before .before .before .before .before .before .before .own-tests .ensures)) ∙ p in
-    let x : isDone (c .before .before .before .room-tests .result .outcome) ≡ true = sym (c .before .before .is-done2 .ensures) ∙ not-false _ (c .before .if3 .left) in
-    (w, done-is _ d, has-room m w qs d (c .before .before .before .room-tests .result) (c .before .before .before .room-tests .ensures) x)
+    let x : isDone (c .before .before .room-tests .result .outcome) ≡ false = sym (c .before .is-done2 .ensures) ∙ not-true _ (c .if3 .taken) in
+    room-refusal m w qs d (c .before .before .room-tests .result) (c .before .before .room-tests .ensures .0) x
+
+store-all-requires : tie.Need-store-all-requires
+store-all-requires c κs =
+    let a = c .before .before .before .before .before .before .before .before .before .before .before .before .before .before .before .before .args in
+    let m = now (a .table) in
+    let qs = requestsIn (now (a .records)) in
+    let w : wellFormed m ≡ true = sym (c .before .before .before .before .before .before .before .before .before .before .before .before .well-formed .ensures) ∙ not-false _ (c .before .before .before .before .before .before .before .before .before .before .before .if1 .left) in
+    let p : isDone (c .before .before .before .before .before .before .before .before .before .own-tests .result .outcome) ≡ true = sym (c .before .before .before .before .before .before .before .before .is-done .ensures) ∙ not-false _ (c .before .before .before .before .before .before .before .if2 .left) in
+    let d : isDone (ownTests (tableOf m) [] 0 qs .outcome) ≡ true = ap (λ (y : Reply). isDone (y .outcome)) (sym (c .before .before .before .before .before .before .before .before .before .own-tests .ensures)) ∙ p in
+    let x : isDone (c .before .before .before .before .room-tests .result .outcome) ≡ true = sym (c .before .before .before .is-done2 .ensures) ∙ not-false _ (c .before .before .if3 .left) in
+    (w, done-is _ d, has-room m w qs d (c .before .before .before .before .room-tests .result) (c .before .before .before .before .room-tests .ensures .0) x, c .before .before .before .before .room-tests .ensures .1)
 
 same-length-4 : tie.Need-same-length-4
 same-length-4 c = search needs
 
 returns-4 : tie.Need-returns-4
 returns-4 c =
-    let a = c .before .before .before .before .before .before .before .before .before .before .before .before .before .before .before .before .before .args in
+    let a = c .before .before .before .before .before .before .before .before .before .before .before .before .before .before .before .before .before .before .before .args in
     let m = now (a .table) in
     let qs = requestsIn (now (a .records)) in
-    let w : wellFormed m ≡ true = sym (c .before .before .before .before .before .before .before .before .before .before .before .before .before .well-formed .ensures) ∙ not-false _ (c .before .before .before .before .before .before .before .before .before .before .before .before .if1 .left) in
-    let p : isDone (c .before .before .before .before .before .before .before .before .before .before .own-tests .result .outcome) ≡ true = sym (c .before .before .before .before .before .before .before .before .before .is-done .ensures) ∙ not-false _ (c .before .before .before .before .before .before .before .before .if2 .left) in
-    let d : isDone (ownTests (tableOf m) [] 0 qs .outcome) ≡ true = ap (λ (y : Reply). isDone (y .outcome)) (sym (c .before .before .before .before .before .before .before .before .before .before .own-tests .ensures)) ∙ p in
-    let x : isDone (c .before .before .before .before .before .before .room-tests .result .outcome) ≡ true = sym (c .before .before .before .before .before .is-done2 .ensures) ∙ not-false _ (c .before .before .before .before .if3 .left) in
-    stored-all m w qs d (c .before .before .before .before .before .before .room-tests .result) (c .before .before .before .before .before .before .room-tests .ensures) x _ (c .before .before .store-all .ensures)
+    let w : wellFormed m ≡ true = sym (c .before .before .before .before .before .before .before .before .before .before .before .before .before .before .before .well-formed .ensures) ∙ not-false _ (c .before .before .before .before .before .before .before .before .before .before .before .before .before .before .if1 .left) in
+    let p : isDone (c .before .before .before .before .before .before .before .before .before .before .before .before .own-tests .result .outcome) ≡ true = sym (c .before .before .before .before .before .before .before .before .before .before .before .is-done .ensures) ∙ not-false _ (c .before .before .before .before .before .before .before .before .before .before .if2 .left) in
+    let d : isDone (ownTests (tableOf m) [] 0 qs .outcome) ≡ true = ap (λ (y : Reply). isDone (y .outcome)) (sym (c .before .before .before .before .before .before .before .before .before .before .before .before .own-tests .ensures)) ∙ p in
+    let x : isDone (c .before .before .before .before .before .before .before .room-tests .result .outcome) ≡ true = sym (c .before .before .before .before .before .before .is-done2 .ensures) ∙ not-false _ (c .before .before .before .before .before .if3 .left) in
+    stored-all m w qs d (c .before .before .before .before .before .before .before .room-tests .result) (c .before .before .before .before .before .before .before .room-tests .ensures .0) x _ (c .before .before .store-all .ensures)
 
 pub register-points-spec : {M : Type 1} → statement M
 register-points-spec =

@@ -1,11 +1,14 @@
 -- From the sums of the table's shares on, with nothing taken in, the turns give the table's answer. Assumes nothing.
 use borrow.Author.Needs.{needs}
-use mathlib.Core.Path.{_≡_, _∙_}
-use Prim.Native.Nat.{_+_, _*_, _-_}
+use mathlib.Core.Path.{_≡_, ap, _∙_}
+use mathlib.Core.List.{List}
+use Prim.Native.Nat.{ℕ, _+_, _*_, _-_}
 use denote.Ref.{now}
 use Rattle.octets.specs.Number.{two}
 use Rattle.table.specs.Memory.{sumAt, heldAt, unmetAt}
-use Rattle.batch_room.proofs.Laws.{room-fresh}
+use Rattle.records.specs.Records.{requestsIn}
+use Rattle.batch_room.specs.Room.{roomRun, takenRun}
+use Rattle.batch_room.proofs.Laws.{room-fresh, took-in}
 use Rattle.batch_room.proofs.room_tests.Statement.{statement}
 use Rattle.batch_room.proofs.room_tests.Tie as tie
 
@@ -40,7 +43,14 @@ returns c =
     let held = s .1 ∙ (λ j. sumAt heldAt m (64 + 48 * k j) (n j)) in
     let unmet = s .2 ∙ (λ j. sumAt unmetAt m (64 + 48 * k j) (n j)) in
     let free = c .before .without .ensures ∙ (λ j. k j - held j) in
-    c .turns .ensures ∙ room-fresh m _ _ _ (c .before .before .before .before .before .before .before .before .pre .0) free unmet
+    let qs = requestsIn (now (a .records)) in
+    let p = c .before .before .before .before .before .before .before .before .pre in
+    let t = c .turns .ensures in
+    let f = c .before .without .result in
+    let u = c .before .before .before .add-up .result .unmet in (
+      t .0 ∙ ap (λ (x : List ℕ). roomRun m x f u 0 qs) (p .2) ∙ room-fresh m f u qs (p .0) free unmet,
+      took-in m f u qs _ (p .0) free unmet (t .1 ∙ ap (λ (x : List ℕ). takenRun m x f u qs) (p .2)),
+    )
 
 pub room-tests-spec : {M : Type 1} → statement M
 room-tests-spec =
