@@ -1,5 +1,6 @@
 // The registration of a batch of points: every point's own tests, then the share rule, then all are stored, or none. From `actor.rs`.
 use limits::outcome::Outcome;
+use octets::wide16;
 use registry::Reply;
 ghost use mathlib.Core.Path.{_≡_};
 ghost use mathlib.Core.Bool.{true};
@@ -13,13 +14,6 @@ ghost use Rattle.batch_room.specs.Room.{TookIn};
 ghost use Rattle.batch.specs.Raise.{raised, Raisable};
 ghost use Rattle.registry.specs.Effect.{replyOn, memoryOn, holding};
 ghost use Rattle.registry.specs.Registry.{ownTests, roomTests, registeringAll};
-
-// A number of 16 bits as a count.
-fn wide16(x: u16) -> usize
-    ensures { λ r. ⌜ r ≡ x ⌝ }
-{
-    x as usize
-}
 
 // Adds to what each of the n stations from `at` holds what it took in.
 fn raise_held(m: &mut [u8], taken: &[u16; 64], at: usize, n: usize)

@@ -71,6 +71,13 @@ pub fn wide(x: u8) -> usize
     x as usize
 }
 
+// A number of 16 bits in the width that counts and places are reckoned in.
+pub fn wide16(x: u16) -> usize
+    ensures { λ r. ⌜ (r ≡ x) × (r < 65536) ⌝ }
+{
+    x as usize
+}
+
 // Two octets from `at` as a number, low octet first.
 pub fn two_at(m: &[u8], at: usize) -> usize
     requires { ⌜ at + 2 ≤ length (now m) ⌝ }

@@ -11,19 +11,12 @@ ghost use Rattle.opening.specs.Head.{headStart};
 
 // ---- a plan as it is lent: CA, reservation and ceiling of each station in turn
 
-// A plan's number in the width that the tests are done in.
-fn wide(x: u16) -> usize
-    ensures { λ r. ⌜ (r ≡ x) × (r < 65536) ⌝ }
-{
-    x as usize
-}
-
 // A number of the plan.
 fn number_at(plan: &[u16], at: usize) -> usize
     requires { ⌜ at < length (now plan) ⌝ }
     ensures { λ r. ⌜ (r ≡ getD (now (plan .entry)) at 0) × (r < 65536) ⌝ }
 {
-    wide(plan[at])
+    octets::wide16(plan[at])
 }
 
 // Are the numbers of the station whose three start at `at` valid, its CA being at least `low`? Nothing is held.

@@ -1,6 +1,6 @@
 // The places that a common address speaks of: a station's, or under 65,535 those of every station.
 use asdu::header::GLOBAL_COMMON_ADDRESS;
-use chains::link::wide16;
+use octets::wide16;
 use seats::Seat;
 ghost use mathlib.Core.Path.{_≡_};
 ghost use Prim.Native.Nat.{_+_, _*_, _≤_};

@@ -62,7 +62,7 @@ add-put-two c =
     let l = c .before .before .before .before .before .before .loop in
     let f = raise-fits (l .m) (now (a .taken)) (a .at) (a .n) (l .i) (omega arith) (omega arith) (l .inv .1) in
     let x = c .before .before .before .two-at .ensures .0 in
-    let y : c .wide16 .result ≡ getD (now (a .taken)) (l .i) 0 = c .wide16 .ensures in
+    let y : c .wide16 .result ≡ getD (now (a .taken)) (l .i) 0 = c .wide16 .ensures .0 in
     omega arith
 
 -- src/lib.rt:68:9
@@ -72,7 +72,7 @@ put-two-requires c κs =
     let l = c .before .before .before .before .before .before .loop in
     let f = raise-fits (l .m) (now (a .taken)) (a .at) (a .n) (l .i) (omega arith) (omega arith) (l .inv .1) in
     let x = c .before .before .before .two-at .ensures .0 in
-    let y : c .wide16 .result ≡ getD (now (a .taken)) (l .i) 0 = c .wide16 .ensures in
+    let y : c .wide16 .result ≡ getD (now (a .taken)) (l .i) 0 = c .wide16 .ensures .0 in
     (omega arith, omega arith)
 
 -- src/lib.rt:69:9
@@ -89,7 +89,7 @@ loop-again c =
     let a = c .before .before .before .before .before .before .before .before .before .before .before .args in
     let l = c .before .before .before .before .before .before .before .before .before .loop in
     let x = c .before .before .before .before .before .before .two-at .ensures .0 in
-    let y : c .before .before .before .wide16 .result ≡ getD (now (a .taken)) (l .i) 0 = c .before .before .before .wide16 .ensures in
+    let y : c .before .before .before .wide16 .result ≡ getD (now (a .taken)) (l .i) 0 = c .before .before .before .wide16 .ensures .0 in
     let p = c .before .before .put-two in
     let t = now (a .taken) in
     let to = a .at + 8 * l .i + 6 in
