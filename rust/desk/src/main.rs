@@ -1,0 +1,2 @@
+//! The capacity desk.
+fn main() {}
