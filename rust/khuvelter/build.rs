@@ -24,11 +24,7 @@ fn main() {
     let library = folder.join(LIBRARY);
     println!("cargo:rerun-if-changed={}", library.display());
     let Ok(library) = library.canonicalize() else {
-        let why = if asked.is_some() {
-            "KHUVELTER_LIB_DIR names that folder"
-        } else {
-            "KHUVELTER_LIB_DIR is not set"
-        };
+        let why = if asked.is_some() { "KHUVELTER_LIB_DIR names that folder" } else { "KHUVELTER_LIB_DIR is not set" };
         stop(&format!(
             "There is no {} ({why}).\n\
              Make it at the top of the repository: rt staticlib khuvelter    (or ./run, which does that and more)\n\

@@ -64,10 +64,7 @@ struct Rtu<P> {
 impl<P: Plant> Rtu<P> {
     /// What is said to an ASDU; the lock is held for this only.
     fn answer(&self, octets: &[u8]) -> Result<ProcessAnswer, Box<dyn Error>> {
-        let mut locked = self
-            .gateway
-            .lock()
-            .map_err(|_| "another thread has failed with the gateway in hand")?;
+        let mut locked = self.gateway.lock().map_err(|_| "another thread has failed with the gateway in hand")?;
         let (gateway, plant) = &mut *locked;
         match octets.first().copied().and_then(types::class) {
             Some(Class::Process) => {
@@ -76,24 +73,18 @@ impl<P: Plant> Rtu<P> {
                 Ok(gateway.process_command(octets, &proposal.unwrap_or_default())?)
             }
             // Everything else goes to the entry for system commands, which is silent where it has nothing to say.
-            _ => Ok(ProcessAnswer {
-                answer: gateway.system_command(octets)?,
-                ..ProcessAnswer::default()
-            }),
+            _ => Ok(ProcessAnswer { answer: gateway.system_command(octets)?, ..ProcessAnswer::default() }),
         }
     }
 
     /// Sends an answer to the connection that asked.
     fn send(&self, id: ConnectionId, answer: &Answer) -> Result<(), Box<dyn Error>> {
-        answer
-            .asdus()
-            .try_for_each(|asdu| self.server.send_asdu(id, Asdu::parse(asdu.octets())?))
+        answer.asdus().try_for_each(|asdu| self.server.send_asdu(id, Asdu::parse(asdu.octets())?))
     }
 
     /// Sends what has changed to every connection.
     fn broadcast(&self, told: &Answer) -> Result<(), Box<dyn Error>> {
-        told.asdus()
-            .try_for_each(|asdu| self.server.broadcast_asdu(Asdu::parse(asdu.octets())?))
+        told.asdus().try_for_each(|asdu| self.server.broadcast_asdu(Asdu::parse(asdu.octets())?))
     }
 }
 
@@ -107,12 +98,7 @@ impl<P: Plant> ServerCallback for Rtu<P> {
     }
 
     fn on_connection_started(&self, id: ConnectionId) -> Result<(), Box<dyn Error>> {
-        let said = self
-            .gateway
-            .lock()
-            .map_err(|_| "the gateway is lost")?
-            .0
-            .connection_started()?;
+        let said = self.gateway.lock().map_err(|_| "the gateway is lost")?.0.connection_started()?;
         self.send(id, &said)
     }
 }
@@ -123,25 +109,14 @@ fn main() -> Result<(), Box<dyn Error>> {
         Point::new(7, 10, types::M_SP_NA_1, [0x01]).in_group(1),
         Point::new(7, 3, types::M_SP_NA_1, [0x00]),
     ])?;
-    let plant = Switches {
-        shown_at: HashMap::from([((7, 103), 3)]),
-    };
-    let rtu = Rtu {
-        gateway: Mutex::new((gateway, plant)),
-        server: Server::default(),
-    };
+    let plant = Switches { shown_at: HashMap::from([((7, 103), 3)]) };
+    let rtu = Rtu { gateway: Mutex::new((gateway, plant)), server: Server::default() };
 
     // What iec104 would call: a control centre connects, asks for everything, and switches IOA 103 on; IOA 3 shows it.
     let centre = ConnectionId(1);
     rtu.on_connection_started(centre)?;
-    rtu.on_new_objects(
-        Asdu::parse(&[0x64, 0x01, 0x06, 0x00, 0x07, 0x00, 0x00, 0x00, 0x00, 0x14])?,
-        centre,
-    )?;
-    rtu.on_new_objects(
-        Asdu::parse(&[0x2D, 0x01, 0x06, 0x00, 0x07, 0x00, 0x67, 0x00, 0x00, 0x01])?,
-        centre,
-    )?;
+    rtu.on_new_objects(Asdu::parse(&[0x64, 0x01, 0x06, 0x00, 0x07, 0x00, 0x00, 0x00, 0x00, 0x14])?, centre)?;
+    rtu.on_new_objects(Asdu::parse(&[0x2D, 0x01, 0x06, 0x00, 0x07, 0x00, 0x67, 0x00, 0x00, 0x01])?, centre)?;
 
     let expected = [
         "to 1:   46 01 04 00 07 00 00 00 00 00",

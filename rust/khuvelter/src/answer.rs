@@ -24,9 +24,7 @@ pub struct Answer {
 impl Answer {
     /// The answer that octets are.
     pub(crate) fn of(octets: &[u8]) -> Self {
-        Self {
-            octets: octets.to_vec(),
-        }
+        Self { octets: octets.to_vec() }
     }
 
     /// Is nothing said? To a command that is number 1: nothing is sent and nothing has changed.

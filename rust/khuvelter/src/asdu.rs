@@ -117,10 +117,7 @@ impl<'a> Asdu<'a> {
     /// Its objects, in order.
     #[must_use]
     pub fn objects(&self) -> Objects<'a> {
-        Objects {
-            octets: &self.octets[HEADER..],
-            element: self.element,
-        }
+        Objects { octets: &self.octets[HEADER..], element: self.element }
     }
 }
 
@@ -151,10 +148,7 @@ impl<'a> Iterator for Objects<'a> {
         let (object, rest) = self.octets.split_at(length);
         self.octets = rest;
         let ioa = u32::from_le_bytes([object[0], object[1], object[2], 0]);
-        Some(Object {
-            ioa,
-            element: &object[ADDRESS..],
-        })
+        Some(Object { ioa, element: &object[ADDRESS..] })
     }
 }
 

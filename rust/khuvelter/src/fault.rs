@@ -56,17 +56,9 @@ const FAULTS: [(Fault, u32, &str); 16] = [
     (Fault::Malformed, 2, "ASDU malformed"),
     (Fault::TableNotWellFormed, 3, "table not well formed"),
     (Fault::AnswerShort, 4, "answer memory shorter than the answer"),
-    (
-        Fault::SpontaneousShort,
-        5,
-        "spontaneous memory shorter than what goes in it",
-    ),
+    (Fault::SpontaneousShort, 5, "spontaneous memory shorter than what goes in it"),
     (Fault::BadProposal, 6, "bad proposal"),
-    (
-        Fault::InvalidPlan,
-        10,
-        "invalid plan or K, or table memory below 48 × K + 8 × stations + 64 octets",
-    ),
+    (Fault::InvalidPlan, 10, "invalid plan or K, or table memory below 48 × K + 8 × stations + 64 octets"),
     (Fault::UnknownTypeOrAddress, 11, "unknown point type, or IOA too large"),
     (Fault::StationNotPlanned, 12, "CA not in the plan"),
     (Fault::GroupOutOfRange, 13, "interrogation group not 1 to 16"),
@@ -92,8 +84,7 @@ impl Fault {
     /// The paper's words for it.
     #[must_use]
     pub fn words(self) -> &'static str {
-        self.row()
-            .map_or("a number that this version does not know", |row| row.2)
+        self.row().map_or("a number that this version does not know", |row| row.2)
     }
 
     /// The fault that has a number; none for 0 (done) and 1 (silent).
@@ -101,11 +92,7 @@ impl Fault {
     pub fn from_number(number: u32) -> Option<Self> {
         match number {
             0 | 1 => None,
-            _ => Some(
-                Self::all()
-                    .find(|fault| fault.number() == number)
-                    .unwrap_or(Self::Later(number)),
-            ),
+            _ => Some(Self::all().find(|fault| fault.number() == number).unwrap_or(Self::Later(number))),
         }
     }
 
@@ -154,10 +141,7 @@ impl Refusal {
 
     /// A refusal at a point of a batch.
     pub(crate) fn at(fault: Fault, place: u32) -> Self {
-        Self {
-            fault,
-            place: Some(place as usize),
-        }
+        Self { fault, place: Some(place as usize) }
     }
 
     /// Why the call was refused.

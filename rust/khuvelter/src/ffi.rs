@@ -160,12 +160,7 @@ mod tests {
 
     /// A reply with a number and nothing else.
     const fn refused(number: u32) -> Reply {
-        Reply {
-            number,
-            place: 0,
-            octets: 0,
-            spontaneous: 0,
-        }
+        Reply { number, place: 0, octets: 0, spontaneous: 0 }
     }
 
     /// Document 01's gateway without points: 48 × 8 + 8 × 1 + 64 octets.
@@ -184,33 +179,15 @@ mod tests {
         for spoilt in [damaged, vec![0; 456], vec![0xFF; 456], vec![], opened()[..455].to_vec()] {
             let mut table = spoilt.clone();
             let (mut clock, mut answer, mut spontaneous) = ([0x11; 8], [0xEE; 300], [0xEE; 300]);
-            let proposal = FlatProposal {
-                negative: false,
-                reply_type: 45,
-                reply: &single[6..],
-                updates: &[],
-            };
+            let proposal = FlatProposal { negative: false, reply_type: 45, reply: &single[6..], updates: &[] };
             assert_eq!(register_point(&mut table, &[0; 24]), refused(3));
             assert_eq!(register_points(&mut table, &[0; 48]), refused(3));
             assert_eq!(unregister_point(&mut table, 7, 10), refused(3));
             assert_eq!(unregister_all(&mut table), refused(3));
             assert_eq!(connection_started(&table, &mut answer), refused(3));
-            assert_eq!(
-                system_command(&mut table, &mut clock, &general, &mut answer),
-                refused(3)
-            );
-            assert_eq!(
-                process_command(&mut table, &single, &proposal, &mut answer, &mut spontaneous),
-                refused(3)
-            );
-            let none = StationShare {
-                number: 3,
-                reservation: 0,
-                ceiling: 0,
-                held: 0,
-                free: 0,
-                unmet: 0,
-            };
+            assert_eq!(system_command(&mut table, &mut clock, &general, &mut answer), refused(3));
+            assert_eq!(process_command(&mut table, &single, &proposal, &mut answer, &mut spontaneous), refused(3));
+            let none = StationShare { number: 3, reservation: 0, ceiling: 0, held: 0, free: 0, unmet: 0 };
             assert_eq!(share(&table, 7), none);
             assert_eq!((table, clock), (spoilt, [0x11; 8]));
             assert_eq!((answer, spontaneous), ([0xEE; 300], [0xEE; 300]));
@@ -247,15 +224,7 @@ mod tests {
         assert_eq!(table[456..], [0xEE; 4]);
         let mut answer = [0xEE; 20];
         let said = connection_started(&table, &mut answer);
-        assert_eq!(
-            said,
-            Reply {
-                number: 0,
-                place: 0,
-                octets: 10,
-                spontaneous: 0
-            }
-        );
+        assert_eq!(said, Reply { number: 0, place: 0, octets: 10, spontaneous: 0 });
         assert_eq!(answer[10..], [0xEE; 10]);
     }
 }

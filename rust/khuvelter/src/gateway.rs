@@ -55,13 +55,7 @@ impl Gateway {
         let numbers: Vec<u16> = plan.iter().flat_map(|s| [s.ca, s.reservation, s.ceiling]).collect();
         done(ffi::open(&mut table, capacity, &numbers))?;
         let room = vec![0; Self::most_system_answer(granted)];
-        Ok(Self {
-            capacity,
-            plan: plan.to_vec(),
-            table,
-            clock: [0; 8],
-            room,
-        })
+        Ok(Self { capacity, plan: plan.to_vec(), table, clock: [0; 8], room })
     }
 
     /// The capacity, K.
@@ -155,23 +149,9 @@ impl Gateway {
     ///
     /// 12, if it is not in the plan.
     pub fn share(&self, ca: u16) -> Result<Share, Refusal> {
-        let ffi::StationShare {
-            number,
-            reservation,
-            ceiling,
-            held,
-            free,
-            unmet,
-        } = ffi::share(&self.table, ca);
+        let ffi::StationShare { number, reservation, ceiling, held, free, unmet } = ffi::share(&self.table, ca);
         match Fault::from_number(number) {
-            None => Ok(Share {
-                ca,
-                reservation,
-                ceiling,
-                held,
-                free,
-                unmet,
-            }),
+            None => Ok(Share { ca, reservation, ceiling, held, free, unmet }),
             Some(fault) => Err(Refusal::of(fault)),
         }
     }
@@ -285,10 +265,7 @@ impl Gateway {
         let mut answer = [0; ASDU];
         let mut spontaneous = vec![0; POINT * proposal.updates.len()];
         let (answered, told) = self.process_command_into(asdu, proposal, &mut answer, &mut spontaneous)?;
-        Ok(ProcessAnswer {
-            spontaneous: Answer::of(&spontaneous[..told]),
-            answer: Answer::of(&answer[..answered]),
-        })
+        Ok(ProcessAnswer { spontaneous: Answer::of(&spontaneous[..told]), answer: Answer::of(&answer[..answered]) })
     }
 
     /// As [`process_command`](Self::process_command), into lent memories; gives back how many octets of the answer and of the

@@ -20,11 +20,7 @@ impl Station {
     /// A station with a reservation and a ceiling.
     #[must_use]
     pub const fn new(ca: u16, reservation: u16, ceiling: u16) -> Self {
-        Self {
-            ca,
-            reservation,
-            ceiling,
-        }
+        Self { ca, reservation, ceiling }
     }
 }
 
@@ -66,10 +62,9 @@ impl PlanFault {
 impl fmt::Display for PlanFault {
     fn fmt(&self, f: &mut fmt::Formatter<'_>) -> fmt::Result {
         match *self {
-            Self::Capacity(capacity) => write!(
-                f,
-                "The capacity is {capacity}, but a gateway has 1 to {MOST_POINTS} points."
-            ),
+            Self::Capacity(capacity) => {
+                write!(f, "The capacity is {capacity}, but a gateway has 1 to {MOST_POINTS} points.")
+            }
             Self::NoStation => write!(f, "The plan has no station; it needs at least one."),
             Self::TooManyStations(stations) => {
                 write!(
@@ -79,16 +74,10 @@ impl fmt::Display for PlanFault {
                 )
             }
             Self::Address(_, Station { ca: EVERY_STATION, .. }) => {
-                write!(
-                    f,
-                    "Station {EVERY_STATION} cannot be planned: in a command that address means every station."
-                )
+                write!(f, "Station {EVERY_STATION} cannot be planned: in a command that address means every station.")
             }
             Self::Address(_, Station { ca, .. }) => {
-                write!(
-                    f,
-                    "Station {ca} cannot be planned: the address of a station is 1 to 65534."
-                )
+                write!(f, "Station {ca} cannot be planned: the address of a station is 1 to 65534.")
             }
             Self::NotAscending(_, before, station) if before.ca == station.ca => {
                 write!(f, "Station {} stands twice.", station.ca)
@@ -100,24 +89,11 @@ impl fmt::Display for PlanFault {
                     station.ca, before.ca
                 )
             }
-            Self::ReservationAboveCeiling(
-                _,
-                Station {
-                    ca,
-                    reservation,
-                    ceiling,
-                },
-            ) => {
-                write!(
-                    f,
-                    "Station {ca} reserves {reservation} points, more than its ceiling of {ceiling}."
-                )
+            Self::ReservationAboveCeiling(_, Station { ca, reservation, ceiling }) => {
+                write!(f, "Station {ca} reserves {reservation} points, more than its ceiling of {ceiling}.")
             }
             Self::CeilingAboveCapacity(_, Station { ca, ceiling, .. }, capacity) => {
-                write!(
-                    f,
-                    "Station {ca} has a ceiling of {ceiling}, more than the gateway's {capacity} points."
-                )
+                write!(f, "Station {ca} has a ceiling of {ceiling}, more than the gateway's {capacity} points.")
             }
             Self::Oversold(sold, capacity) => {
                 write!(
@@ -175,15 +151,9 @@ fn station_faults(
     station: Station,
     before: Option<Station>,
 ) -> impl Iterator<Item = PlanFault> {
-    let Station {
-        ca,
-        reservation,
-        ceiling,
-    } = station;
+    let Station { ca, reservation, ceiling } = station;
     let unaddressed = (ca == 0 || ca == EVERY_STATION).then_some(PlanFault::Address(at, station));
-    let disordered = before
-        .filter(|before| before.ca >= ca)
-        .map(|before| PlanFault::NotAscending(at, before, station));
+    let disordered = before.filter(|before| before.ca >= ca).map(|before| PlanFault::NotAscending(at, before, station));
     let inverted = (reservation > ceiling).then_some(PlanFault::ReservationAboveCeiling(at, station));
     let high = (u32::from(ceiling) > capacity).then_some(PlanFault::CeilingAboveCapacity(at, station, capacity));
     [unaddressed, disordered, inverted, high].into_iter().flatten()
@@ -192,19 +162,13 @@ fn station_faults(
 /// The reservations of all stations together: what is sold.
 #[must_use]
 pub fn reserved(stations: &[Station]) -> u32 {
-    stations
-        .iter()
-        .map(|station| u32::from(station.reservation))
-        .fold(0, u32::saturating_add)
+    stations.iter().map(|station| u32::from(station.reservation)).fold(0, u32::saturating_add)
 }
 
 /// The ceilings of all stations together.
 #[must_use]
 pub fn ceilings(stations: &[Station]) -> u32 {
-    stations
-        .iter()
-        .map(|station| u32::from(station.ceiling))
-        .fold(0, u32::saturating_add)
+    stations.iter().map(|station| u32::from(station.ceiling)).fold(0, u32::saturating_add)
 }
 
 /// The octets of the table of a plan: 48 for each point, 8 for each station, 64 for the head.

@@ -64,32 +64,19 @@ impl Point {
     /// A point in no group.
     #[must_use]
     pub fn new(ca: u16, ioa: u32, type_id: u8, value: impl Into<Value>) -> Self {
-        Self {
-            ca,
-            ioa,
-            type_id,
-            value: value.into(),
-            group: None,
-            counter_group: None,
-        }
+        Self { ca, ioa, type_id, value: value.into(), group: None, counter_group: None }
     }
 
     /// The same point in an interrogation group.
     #[must_use]
     pub fn in_group(self, group: u8) -> Self {
-        Self {
-            group: Some(group),
-            ..self
-        }
+        Self { group: Some(group), ..self }
     }
 
     /// The same point in a counter group.
     #[must_use]
     pub fn in_counter_group(self, group: u8) -> Self {
-        Self {
-            counter_group: Some(group),
-            ..self
-        }
+        Self { counter_group: Some(group), ..self }
     }
 
     /// Its record: CA 2, IOA 4, type 1, has a group 1, group 1, has a counter group 1, counter group 1, spare 1, value 12.

@@ -21,25 +21,13 @@ impl Update {
     /// An update.
     #[must_use]
     pub fn new(ca: u16, ioa: u32, type_id: u8, value: impl Into<Value>) -> Self {
-        Self {
-            ca,
-            ioa,
-            type_id,
-            value: value.into(),
-        }
+        Self { ca, ioa, type_id, value: value.into() }
     }
 
     /// Its octets: CA 2, IOA 3, type 1, value 12; none if no point can have its address.
     fn octets(&self) -> Option<impl Iterator<Item = u8>> {
         let ioa = self.ioa.to_le_bytes();
-        let head = [
-            self.ca.to_le_bytes()[0],
-            self.ca.to_le_bytes()[1],
-            ioa[0],
-            ioa[1],
-            ioa[2],
-            self.type_id,
-        ];
+        let head = [self.ca.to_le_bytes()[0], self.ca.to_le_bytes()[1], ioa[0], ioa[1], ioa[2], self.type_id];
         (self.ioa <= LARGEST_IOA).then(|| head.into_iter().chain(*self.value.octets()))
     }
 }
@@ -90,20 +78,13 @@ impl Proposal {
     /// Rejects a command: a negative confirmation with its own type and objects.
     #[must_use]
     pub fn reject(command: &[u8]) -> Self {
-        Self {
-            negative: true,
-            ..Self::confirm(command)
-        }
+        Self { negative: true, ..Self::confirm(command) }
     }
 
     /// The same proposal with another reply.
     #[must_use]
     pub fn with_reply(self, reply_type: u8, objects: &[u8]) -> Self {
-        Self {
-            reply_type,
-            reply: objects.to_vec(),
-            ..self
-        }
+        Self { reply_type, reply: objects.to_vec(), ..self }
     }
 
     /// The same proposal with one more update.
@@ -120,11 +101,6 @@ impl Proposal {
 
     /// The proposal as the C interface takes it.
     pub(crate) fn flat<'a>(&'a self, updates: &'a [u8]) -> FlatProposal<'a> {
-        FlatProposal {
-            negative: self.negative,
-            reply_type: self.reply_type,
-            reply: &self.reply,
-            updates,
-        }
+        FlatProposal { negative: self.negative, reply_type: self.reply_type, reply: &self.reply, updates }
     }
 }

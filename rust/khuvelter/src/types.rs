@@ -127,10 +127,7 @@ pub fn class(number: u8) -> Option<Class> {
 /// The number of a type's name, in any case of letters.
 #[must_use]
 pub fn number(name: &str) -> Option<u8> {
-    TYPES
-        .iter()
-        .find(|row| row.1.eq_ignore_ascii_case(name))
-        .map(|row| row.0)
+    TYPES.iter().find(|row| row.1.eq_ignore_ascii_case(name)).map(|row| row.0)
 }
 
 /// Every type that the gateway knows, ascending.

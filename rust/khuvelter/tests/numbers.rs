@@ -13,10 +13,7 @@ const PAPER: [(u32, &str); 16] = [
     (4, "answer memory shorter than the answer"),
     (5, "spontaneous memory shorter than what goes in it"),
     (6, "bad proposal"),
-    (
-        10,
-        "invalid plan or K, or table memory below 48 × K + 8 × stations + 64 octets",
-    ),
+    (10, "invalid plan or K, or table memory below 48 × K + 8 × stations + 64 octets"),
     (11, "unknown point type, or IOA too large"),
     (12, "CA not in the plan"),
     (13, "interrogation group not 1 to 16"),
@@ -47,9 +44,7 @@ fn point(ca: u16, ioa: u32) -> Point {
 /// What every station answers to a general interrogation, and the shares: all that can be seen of a gateway.
 fn seen(gateway: &Gateway) -> (Vec<u8>, Vec<khuvelter::Share>, Option<[u8; 7]>) {
     let mut copy = gateway.clone();
-    let all = copy
-        .system_command(&[0x64, 0x01, 0x06, 0x00, 0xFF, 0xFF, 0x00, 0x00, 0x00, 0x14])
-        .unwrap();
+    let all = copy.system_command(&[0x64, 0x01, 0x06, 0x00, 0xFF, 0xFF, 0x00, 0x00, 0x00, 0x14]).unwrap();
     (all.into_octets(), gateway.shares().unwrap(), gateway.clock())
 }
 
@@ -104,13 +99,10 @@ fn number_1_silent() {
     }
     // Cause 3; a type that the entry does not serve.
     let update = Update::new(7, 10, types::M_SP_NA_1, [0x01]);
-    for command in [
-        &[0x2D, 0x01, 0x03, 0x00, 0x07, 0x00, 0x0A, 0x00, 0x00, 0x01][..],
-        &[0x64, 0x00, 0x06, 0x00, 0x07, 0x00],
-    ] {
-        let said = gateway
-            .process_command(command, &Proposal::confirm(&SINGLE).with_update(update))
-            .unwrap();
+    for command in
+        [&[0x2D, 0x01, 0x03, 0x00, 0x07, 0x00, 0x0A, 0x00, 0x00, 0x01][..], &[0x64, 0x00, 0x06, 0x00, 0x07, 0x00]]
+    {
+        let said = gateway.process_command(command, &Proposal::confirm(&SINGLE).with_update(update)).unwrap();
         assert!(said.answer.is_silent() && said.spontaneous.is_silent());
     }
     assert_eq!(seen(&gateway), before);
@@ -121,17 +113,11 @@ fn number_2_asdu_malformed() {
     let mut gateway = gateway();
     let before = seen(&gateway);
     let number = |refused: Refusal| refused.number();
-    for command in [
-        &[][..],
-        &[0x64, 0x01, 0x06, 0x00, 0x07],
-        &[0x64; 250],
-        &[0x64, 0x81, 0x06, 0x00, 0x07, 0x00],
-        &SINGLE[..9],
-    ] {
+    for command in
+        [&[][..], &[0x64, 0x01, 0x06, 0x00, 0x07], &[0x64; 250], &[0x64, 0x81, 0x06, 0x00, 0x07, 0x00], &SINGLE[..9]]
+    {
         let system = gateway.system_command(command).map_err(number);
-        let process = gateway
-            .process_command(command, &Proposal::confirm(&SINGLE))
-            .map_err(number);
+        let process = gateway.process_command(command, &Proposal::confirm(&SINGLE)).map_err(number);
         // A system type is nothing to the process entry, and the other way round: both say 2 or are silent, and one says 2.
         assert!(system == Err(2) || process == Err(2), "{command:02X?}");
         assert!(system.map_or_else(|number| number == 2, |answer| answer.is_silent()));
@@ -160,9 +146,7 @@ fn number_4_answer_memory_short() {
 
     let before = seen(&gateway);
     let proposal = Proposal::confirm(&SINGLE).with_update(Update::new(7, 10, types::M_SP_NA_1, [0x01]));
-    let refusal = gateway
-        .process_command_into(&SINGLE, &proposal, &mut memory, &mut [0; 10])
-        .unwrap_err();
+    let refusal = gateway.process_command_into(&SINGLE, &proposal, &mut memory, &mut [0; 10]).unwrap_err();
     assert_eq!((refusal.number(), memory), (4, [0xEE; 9]));
     assert_eq!(seen(&gateway), before);
 }
@@ -173,15 +157,10 @@ fn number_5_spontaneous_memory_short() {
     let before = seen(&gateway);
     let proposal = Proposal::confirm(&SINGLE).with_update(Update::new(7, 10, types::M_SP_NA_1, [0x01]));
     let mut told = [0xEE; 9];
-    let refusal = gateway
-        .process_command_into(&SINGLE, &proposal, &mut [0; 10], &mut told)
-        .unwrap_err();
+    let refusal = gateway.process_command_into(&SINGLE, &proposal, &mut [0; 10], &mut told).unwrap_err();
     assert_eq!((refusal.number(), told), (5, [0xEE; 9]));
     assert_eq!(seen(&gateway), before);
-    assert_eq!(
-        gateway.process_command_into(&SINGLE, &proposal, &mut [0; 10], &mut [0; 10]),
-        Ok((10, 10))
-    );
+    assert_eq!(gateway.process_command_into(&SINGLE, &proposal, &mut [0; 10], &mut [0; 10]), Ok((10, 10)));
 }
 
 #[test]
@@ -196,9 +175,7 @@ fn number_6_bad_proposal() {
         Proposal::reject(&SINGLE).with_reply(0, &[]),
         Proposal::default(),
     ] {
-        let refusal = gateway
-            .process_command(&SINGLE, &proposal.with_update(update))
-            .unwrap_err();
+        let refusal = gateway.process_command(&SINGLE, &proposal.with_update(update)).unwrap_err();
         assert_eq!(refusal.number(), 6);
     }
     assert_eq!(seen(&gateway), before);
@@ -245,9 +222,7 @@ fn numbers_11_to_15_of_a_point() {
 fn number_16_twice_in_a_batch() {
     let mut gateway = gateway();
     let before = seen(&gateway);
-    let refusal = gateway
-        .register_all(&[point(8, 1), point(8, 2), point(8, 1)])
-        .unwrap_err();
+    let refusal = gateway.register_all(&[point(8, 1), point(8, 2), point(8, 1)]).unwrap_err();
     assert_eq!((refusal.number(), refusal.place()), (16, Some(2)));
     assert_eq!(seen(&gateway), before);
 }
@@ -297,9 +272,7 @@ fn an_update_of_an_impossible_address_is_skipped() {
     let mut gateway = gateway();
     let update = Update::new(7, LARGEST_IOA + 1 + 10, types::M_SP_NA_1, [0x01]);
     let before = seen(&gateway);
-    let said = gateway
-        .process_command(&SINGLE, &Proposal::confirm(&SINGLE).with_update(update))
-        .unwrap();
+    let said = gateway.process_command(&SINGLE, &Proposal::confirm(&SINGLE).with_update(update)).unwrap();
     assert!(said.spontaneous.is_silent());
     assert_eq!(said.answer.octets().len(), 10);
     assert_eq!(seen(&gateway), before);

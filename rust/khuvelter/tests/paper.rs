@@ -4,10 +4,7 @@ use khuvelter::{types, Answer, Gateway, Point, Station};
 
 /// Octets written as on paper.
 fn octets(paper: &str) -> Vec<u8> {
-    paper
-        .split_whitespace()
-        .map(|octet| u8::from_str_radix(octet, 16).unwrap())
-        .collect()
+    paper.split_whitespace().map(|octet| u8::from_str_radix(octet, 16).unwrap()).collect()
 }
 
 /// K = 8; station 7, r 2, c 4; three points.
@@ -38,17 +35,12 @@ fn case_a_general_interrogation() {
     );
     assert_eq!(answer.octets(), whole);
     assert_eq!(whole.len(), 48);
-    let causes: Vec<_> = answer
-        .asdus()
-        .map(|asdu| (asdu.type_id(), asdu.cause(), asdu.count()))
-        .collect();
+    let causes: Vec<_> = answer.asdus().map(|asdu| (asdu.type_id(), asdu.cause(), asdu.count())).collect();
     assert_eq!(causes, [(100, 7, 1), (1, 20, 2), (15, 20, 1), (100, 10, 1)]);
     let mut asdus = answer.asdus();
     assert_eq!(asdus.by_ref().count(), 4);
     assert!(asdus.rest().is_empty());
-    let refusal = gateway()
-        .system_command_into(&octets("64 01 06 00 07 00 00 00 00 14"), &mut [0; 47])
-        .unwrap_err();
+    let refusal = gateway().system_command_into(&octets("64 01 06 00 07 00 00 00 00 14"), &mut [0; 47]).unwrap_err();
     assert_eq!(refusal.number(), 4);
 }
 
@@ -73,10 +65,7 @@ fn case_e_counters_read_before_the_reset() {
     let mut gateway = gateway();
     let answer = said(&mut gateway, "65 01 06 00 07 00 00 00 00 C5");
     assert_eq!(answer.octets().len(), 34);
-    assert_eq!(
-        answer.octets()[10..24],
-        octets("0F 01 25 00 07 00 05 00 00 2A 00 00 00 03")
-    );
+    assert_eq!(answer.octets()[10..24], octets("0F 01 25 00 07 00 05 00 00 2A 00 00 00 03"));
     let read = said(&mut gateway, "66 01 05 00 07 00 05 00 00");
     assert_eq!(read.octets()[9..], octets("0F 01 05 00 07 00 05 00 00 00 00 00 00 03"));
 }
@@ -84,10 +73,7 @@ fn case_e_counters_read_before_the_reset() {
 #[test]
 fn case_f_station_not_planned() {
     let answer = said(&mut gateway(), "64 01 06 00 09 00 00 00 00 14");
-    assert_eq!(
-        answer.octets(),
-        octets("64 01 07 00 09 00 00 00 00 14 64 01 0A 00 09 00 00 00 00 14")
-    );
+    assert_eq!(answer.octets(), octets("64 01 07 00 09 00 00 00 00 14 64 01 0A 00 09 00 00 00 00 14"));
 }
 
 #[test]
@@ -120,13 +106,10 @@ fn the_longest_answers_fit() {
     // A full gateway of the longest points, to every station.
     let stations: Vec<_> = (1..=64).map(|ca| Station::new(ca, 64, 64)).collect();
     let mut large = Gateway::open(4096, &stations).unwrap();
-    let points: Vec<_> = (0..4096)
-        .map(|n| Point::new(1 + (n / 64) as u16, n % 64, types::M_IT_TB_1, [0xFF; 12]))
-        .collect();
+    let points: Vec<_> =
+        (0..4096).map(|n| Point::new(1 + (n / 64) as u16, n % 64, types::M_IT_TB_1, [0xFF; 12])).collect();
     large.register_all(&points).unwrap();
-    let answer = large
-        .system_command(&[0x64, 0x01, 0x06, 0x00, 0xFF, 0xFF, 0x00, 0x00, 0x00, 0x14])
-        .unwrap();
+    let answer = large.system_command(&[0x64, 0x01, 0x06, 0x00, 0xFF, 0xFF, 0x00, 0x00, 0x00, 0x14]).unwrap();
     assert_eq!(answer.asdus().map(|asdu| asdu.count()).sum::<usize>(), 4096 + 2);
 
     // One point of each of the 30 types: every ASDU has a header for a single object.
@@ -135,9 +118,7 @@ fn the_longest_answers_fit() {
     let points: Vec<_> = kinds.zip(0..).map(|(kind, ioa)| Point::new(7, ioa, kind, [])).collect();
     assert_eq!(points.len(), 30);
     mixed.register_all(&points).unwrap();
-    let answer = mixed
-        .system_command(&[0x64, 0x01, 0x06, 0x00, 0x07, 0x00, 0x00, 0x00, 0x00, 0x14])
-        .unwrap();
+    let answer = mixed.system_command(&[0x64, 0x01, 0x06, 0x00, 0x07, 0x00, 0x00, 0x00, 0x00, 0x14]).unwrap();
     assert_eq!(answer.asdus().count(), 32);
     // 30 headers, 30 addresses, the elements of document 01's list (198 octets), confirmation and termination.
     assert_eq!(answer.octets().len(), 30 * 6 + 30 * 3 + 198 + 20);

@@ -19,11 +19,7 @@ impl Numbers {
 fn agree(capacity: u32, stations: &[Station]) -> bool {
     let opened = Gateway::open(capacity, stations);
     let faults = plan::faults(capacity, stations);
-    assert_eq!(
-        opened.is_ok(),
-        faults.is_empty(),
-        "capacity {capacity}, {stations:?}: {faults:?}"
-    );
+    assert_eq!(opened.is_ok(), faults.is_empty(), "capacity {capacity}, {stations:?}: {faults:?}");
     assert!(faults.iter().all(|fault| fault.to_string().ends_with('.')));
     opened.is_ok()
 }
