@@ -1,4 +1,4 @@
-//! Finds libkhuvelter.a, the proved library. It stands in the folder that `KHUVELTER_LIB_DIR` names, else where `rt staticlib khuvelter`
+//! Finds libkhuvelter.a, the proved library. It stands in the folder that `KHUVELTER_LIB_DIR` names (a whole path), else where `rt staticlib khuvelter`
 //! writes it: `target/staticlib` at the top of the repository.
 
 use std::env;
