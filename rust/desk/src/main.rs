@@ -1,9 +1,12 @@
 //! The capacity desk of a proved gateway: opens one from a plan, loads points, sends commands, shows shares. `desk --help` says how.
 
 mod board;
+mod call;
 mod language;
+mod plan_lines;
 mod progress;
 mod session;
+mod stop;
 mod style;
 mod words;
 
@@ -11,7 +14,8 @@ use std::fs::File;
 use std::io::{self, BufRead, BufReader, BufWriter, IsTerminal, Read, Write};
 use std::process::ExitCode;
 
-use session::{Session, Stop};
+use session::Session;
+use stop::Stop;
 use style::Style;
 
 /// What `--help` says; the words of a script stand in it.
@@ -140,10 +144,10 @@ fn run(input: &mut impl BufRead, typed: bool, session: &mut Session, out: &mut i
             return session.end(line - 1, out);
         }
         if length as u64 > LONGEST_LINE {
-            return Err(Stop::bad(line, format!("this line is longer than {LONGEST_LINE} octets"), ""));
+            return Err(Stop::bad(line, format!("this line is longer than {LONGEST_LINE} octets")));
         }
         let Ok(text) = std::str::from_utf8(&octets) else {
-            return Err(Stop::bad(line, "this line is no UTF-8 text".to_string(), &String::from_utf8_lossy(&octets)));
+            return Err(Stop::bad(line, "this line is no UTF-8 text").with_text(&String::from_utf8_lossy(&octets)));
         };
         let text = if line == 1 { text.trim_start_matches('\u{FEFF}') } else { text };
         session.line(line, text, out)?;

@@ -1,61 +1,22 @@
 //! One script at work: a plan, a gateway, the last call and what was expected of it.
 
 use std::collections::BTreeMap;
-use std::io::{self, Write};
+use std::io::Write;
 
-use khuvelter::plan::{self, PlanFault};
-use khuvelter::{Asdu, Asdus, Fault, Gateway, Point, Refusal, Station};
+use khuvelter::{Asdu, Asdus, Fault, Gateway, Point, Refusal};
 
 use crate::board;
-use crate::language::{statement, Expectation, Sending, Statement};
+use crate::call::Call;
+use crate::language::{statement, Sending, Statement};
+use crate::plan_lines::PlanLines;
 use crate::progress::Progress;
+use crate::stop::Stop;
 use crate::style::{Ink, Style};
 use crate::words::{self, count};
 use crate::HELP;
 
-/// Why a script does not go on.
-#[derive(Debug)]
-pub enum Stop {
-    /// A bad line.
-    Bad { line: usize, reason: String, text: String },
-    /// Nobody reads what is said.
-    Gone,
-    /// The script cannot be read.
-    Unreadable(io::Error),
-}
-
-impl Stop {
-    /// A bad line.
-    pub fn bad(line: usize, reason: String, text: &str) -> Self {
-        Self::Bad { line, reason, text: text.to_string() }
-    }
-}
-
-/// Standard output is gone.
-impl From<io::Error> for Stop {
-    fn from(_: io::Error) -> Self {
-        Self::Gone
-    }
-}
-
-/// The plan as it is being written: each number with its line.
-#[derive(Default)]
-struct PlanLines {
-    capacity: Option<u32>,
-    stations: Vec<Station>,
-    lines: Vec<usize>,
-    /// An `open` has used it: the next plan starts with a capacity.
-    used: bool,
-}
-
-/// A call that was made, and what is expected of it.
-struct Call {
-    line: usize,
-    number: u32,
-    answer: Vec<u8>,
-    told: Vec<u8>,
-    expected: Vec<Expectation>,
-}
+/// The most points of a batch: far more than any gateway takes.
+const MOST_IN_BATCH: usize = 65_536;
 
 /// Points that have gone in since something else was said.
 struct Loading {
@@ -110,7 +71,7 @@ impl Session {
 
     /// Reads and runs one line.
     pub fn line(&mut self, line: usize, text: &str, out: &mut impl Write) -> Result<(), Stop> {
-        let statement = statement(text).map_err(|reason| Stop::bad(line, reason, text));
+        let statement = statement(text);
         // What has been done is told before a bad line is.
         if !matches!(statement, Ok(Statement::Nothing | Statement::Expect(_))) {
             self.settle(out)?;
@@ -118,10 +79,15 @@ impl Session {
         if !matches!(statement, Ok(Statement::Nothing | Statement::Point(_) | Statement::Points(_))) {
             self.loaded(out)?;
         }
-        if self.check_only {
-            return self.plan_only(line, statement?, out).map_err(|stop| with_text(stop, text));
-        }
-        self.run(line, statement?, out).map_err(|stop| with_text(stop, text))
+        let statement = statement.map_err(|reason| Stop::bad(line, reason).with_text(text))?;
+        let run = if self.check_only {
+            self.plan_only(line, statement, out)
+        } else if self.batch.is_some() {
+            self.in_batch(line, statement, out)
+        } else {
+            self.run(line, statement, out)
+        };
+        run.map_err(|stop| stop.with_text(text))
     }
 
     /// The script has ended.
@@ -129,13 +95,10 @@ impl Session {
         self.settle(out)?;
         self.loaded(out)?;
         if let Some((start, _)) = self.batch {
-            return Err(Stop::bad(
-                line,
-                format!("the batch of line {start} has no 'end'; its points were not registered"),
-                "",
-            ));
+            let reason = format!("the batch of line {start} has no 'end'; its points were not registered");
+            return Err(Stop::bad(line, reason));
         }
-        if self.check_only && !self.plan.used {
+        if self.check_only && !self.plan.is_used() {
             self.check(line, out)?;
             self.settle(out)?;
         }
@@ -144,9 +107,6 @@ impl Session {
 
     /// Runs one statement.
     fn run(&mut self, line: usize, statement: Statement, out: &mut impl Write) -> Result<(), Stop> {
-        if self.batch.is_some() {
-            return self.in_batch(line, statement, out);
-        }
         match statement {
             Statement::Nothing => {}
             Statement::Help => write!(out, "{HELP}")?,
@@ -155,7 +115,7 @@ impl Session {
                 self.headed = true;
             }
             Statement::Brief(brief) => self.brief = brief,
-            Statement::Capacity(_) | Statement::Station(_) => self.planned(line, &statement)?,
+            Statement::Capacity(_) | Statement::Station(_) => self.plan.take(line, &statement)?,
             Statement::Check => self.check(line, out)?,
             Statement::Open => self.open(line, out)?,
             Statement::Point(point) => self.register(line, &point, out)?,
@@ -164,7 +124,7 @@ impl Session {
                 self.register_all(line, &points, out)?;
             }
             Statement::Batch => self.batch = Some((line, Vec::new())),
-            Statement::End => return Err(Stop::bad(line, "there is no batch to end".to_string(), "")),
+            Statement::End => return Err(Stop::bad(line, "there is no batch to end")),
             Statement::Remove(ca, ioa) => {
                 let said = self.gateway(line)?.unregister(ca, ioa);
                 let done = said.map(|()| format!("removed: CA {ca} IOA {ioa}"));
@@ -178,14 +138,14 @@ impl Session {
             Statement::Shares => self.shares(line, out)?,
             Statement::Connect => {
                 let said = self.gateway(line)?.connection_started();
+                self.space(out)?;
+                writeln!(out, "> a connection has started")?;
                 self.answered(line, said.map(|answer| (answer.into_octets(), Vec::new())), out)?;
             }
             Statement::Send(sending) => self.send(line, &sending, out)?,
             Statement::Expect(expectation) => match &mut self.call {
                 Some(call) => call.expected.push(expectation),
-                None => {
-                    return Err(Stop::bad(line, "there is no call above that anything is expected of".to_string(), ""))
-                }
+                None => return Err(Stop::bad(line, "there is no call above that anything is expected of")),
             },
         }
         Ok(())
@@ -194,10 +154,10 @@ impl Session {
     /// Looks at the plans of a script and nothing else.
     fn plan_only(&mut self, line: usize, statement: Statement, out: &mut impl Write) -> Result<(), Stop> {
         match statement {
-            Statement::Capacity(_) | Statement::Station(_) => self.planned(line, &statement),
+            Statement::Capacity(_) | Statement::Station(_) => self.plan.take(line, &statement),
             Statement::Open => {
                 self.check(line, out)?;
-                self.plan.used = true;
+                self.plan.use_up();
                 Ok(())
             }
             _ => Ok(()),
@@ -210,132 +170,71 @@ impl Session {
             return Ok(());
         };
         match statement {
-            Statement::Nothing => Ok(()),
-            Statement::Point(point) => {
-                points.push((line, point));
-                Ok(())
-            }
-            Statement::Points(more) => {
-                points.extend(more.into_iter().map(|point| (line, point)));
-                Ok(())
-            }
+            Statement::Nothing => {}
+            Statement::Point(point) => points.push((line, point)),
+            Statement::Points(more) => points.extend(more.into_iter().map(|point| (line, point))),
             Statement::End => {
                 let points = std::mem::take(points);
                 self.batch = None;
-                self.register_all(line, &points, out)
+                return self.register_all(line, &points, out);
             }
             _ => {
                 let reason = format!("only points stand in a batch; the one of line {start} has no 'end' yet");
-                Err(Stop::bad(line, reason, ""))
+                return Err(Stop::bad(line, reason));
             }
         }
+        if points.len() > MOST_IN_BATCH {
+            return Err(Stop::bad(line, format!("the batch of line {start} has more than {MOST_IN_BATCH} points")));
+        }
+        Ok(())
     }
 
     /// The gateway, which must be open.
     fn gateway(&mut self, line: usize) -> Result<&mut Gateway, Stop> {
-        self.gateway
-            .as_mut()
-            .ok_or_else(|| Stop::bad(line, "no gateway is open: a plan and 'open' come first".to_string(), ""))
+        self.gateway.as_mut().ok_or_else(|| Stop::bad(line, "no gateway is open: a plan and 'open' come first"))
     }
 
     // ---- the plan
 
-    /// A line of the plan.
-    fn planned(&mut self, line: usize, statement: &Statement) -> Result<(), Stop> {
-        match *statement {
-            Statement::Capacity(_) if self.plan.capacity.is_some() && !self.plan.used => {
-                Err(Stop::bad(line, "this plan has a capacity already".to_string(), ""))
-            }
-            Statement::Capacity(capacity) => {
-                self.plan = PlanLines { capacity: Some(capacity), ..PlanLines::default() };
-                Ok(())
-            }
-            Statement::Station(_) if self.plan.capacity.is_none() || self.plan.used => {
-                Err(Stop::bad(line, "a plan starts with its capacity; stations follow".to_string(), ""))
-            }
-            Statement::Station(station) => {
-                self.plan.stations.push(station);
-                self.plan.lines.push(line);
-                Ok(())
-            }
-            _ => Ok(()),
-        }
-    }
-
-    /// What is wrong with the plan, each with its line.
-    fn faults(&self) -> Vec<(Option<usize>, PlanFault)> {
-        let faults = plan::faults(self.plan.capacity.unwrap_or(0), &self.plan.stations);
-        faults.into_iter().map(|fault| (fault.station().map(|at| self.plan.lines[at]), fault)).collect()
-    }
-
-    /// Says whether the plan can be opened, and what it promises.
+    /// Says whether the plan can be opened: what is wrong with it, or what it promises.
     fn check(&mut self, line: usize, out: &mut impl Write) -> Result<(), Stop> {
-        if self.plan.capacity.is_none() {
-            return Err(Stop::bad(line, "there is no plan: it starts with 'capacity'".to_string(), ""));
-        }
-        let faults = self.faults();
+        self.plan.written(line)?;
+        let faults = self.plan.faults();
         self.called(line, if faults.is_empty() { 0 } else { 10 }, Vec::new(), Vec::new());
         if !faults.is_empty() {
             return self.say_faults(&faults, out);
         }
-        let (capacity, stations) = (self.plan.capacity.unwrap_or(0), &self.plan.stations);
-        let (sold, ceilings) = (plan::reserved(stations), plan::ceilings(stations));
         writeln!(out, "{}", self.style.paint(Ink::Good, "The plan can be opened."))?;
-        let number = stations.len();
-        writeln!(
-            out,
-            "  {capacity} points, {}, {} octets of table",
-            count(number, "station", "stations"),
-            plan::table_octets(capacity, number)
-        )?;
-        writeln!(
-            out,
-            "  {sold} points are reserved, {} may still be sold (capacity minus all reservations)",
-            capacity - sold
-        )?;
-        if ceilings < capacity {
-            writeln!(out, "  the ceilings add up to {ceilings}, so {} points can never be used", capacity - ceilings)?;
-        }
-        for station in stations.iter().filter(|station| station.ceiling == 0) {
-            writeln!(out, "  station {} has a ceiling of 0 and can hold nothing", station.ca)?;
+        for promise in self.plan.promises() {
+            writeln!(out, "  {promise}")?;
         }
         Ok(())
     }
 
     /// Says what is wrong with the plan.
-    fn say_faults(&self, faults: &[(Option<usize>, PlanFault)], out: &mut impl Write) -> Result<(), Stop> {
+    fn say_faults(&self, faults: &[String], out: &mut impl Write) -> Result<(), Stop> {
         writeln!(out, "{}", self.style.paint(Ink::Bad, "The plan cannot be opened."))?;
-        for (line, fault) in faults {
-            let place = line.map(|line| format!("line {line}: ")).unwrap_or_default();
-            writeln!(out, "  {place}{fault}")?;
+        for fault in faults {
+            writeln!(out, "  {fault}")?;
         }
         Ok(())
     }
 
     /// Opens a gateway under the plan; what is wrong is said before.
     fn open(&mut self, line: usize, out: &mut impl Write) -> Result<(), Stop> {
-        if self.plan.capacity.is_none() {
-            return Err(Stop::bad(
-                line,
-                "there is no plan to open: 'capacity' and 'station' come first".to_string(),
-                "",
-            ));
-        }
-        let faults = self.faults();
+        let (capacity, stations) = self.plan.written(line)?;
+        let opened = Gateway::open(capacity, stations);
+        let what = format!("open: {capacity} points, {}", count(stations.len(), "station", "stations"));
+        let faults = self.plan.faults();
         if !faults.is_empty() {
             self.say_faults(&faults, out)?;
         }
-        let (capacity, stations) = (self.plan.capacity.unwrap_or(0), self.plan.stations.clone());
-        self.plan.used = true;
-        let opened = Gateway::open(capacity, &stations).map(|gateway| {
+        self.plan.use_up();
+        let said = opened.map(|gateway| {
             self.gateway = Some(gateway);
-            format!(
-                "open: {}, {}",
-                count(capacity as usize, "point", "points"),
-                count(stations.len(), "station", "stations")
-            )
+            what
         });
-        self.told(line, opened, out)
+        self.told(line, said, out)
     }
 
     // ---- points
@@ -399,13 +298,12 @@ impl Session {
 
     /// The board of the stations.
     fn shares(&mut self, line: usize, out: &mut impl Write) -> Result<(), Stop> {
-        let (style, headed) = (self.style, std::mem::take(&mut self.headed));
+        let style = self.style;
+        self.gateway(line)?;
+        self.space(out)?;
         let gateway = self.gateway(line)?;
         match gateway.shares() {
             Ok(shares) => {
-                if !headed {
-                    writeln!(out)?;
-                }
                 for row in board::board(style, gateway.capacity(), gateway.plan(), &shares) {
                     writeln!(out, "{row}")?;
                 }
@@ -441,14 +339,20 @@ impl Session {
                 })
             }
         };
-        if !std::mem::take(&mut self.headed) {
-            writeln!(out)?;
-        }
+        self.space(out)?;
         self.show(">", &sending.asdu, out)?;
         if let Some(room) = sending.room {
             writeln!(out, "    room for the answer: {}", count(room, "octet", "octets"))?;
         }
         self.answered(line, said, out)
+    }
+
+    /// A blank line, but not under a heading.
+    fn space(&mut self, out: &mut impl Write) -> Result<(), Stop> {
+        if !std::mem::take(&mut self.headed) {
+            writeln!(out)?;
+        }
+        Ok(())
     }
 
     /// Says what a command was answered.
@@ -566,7 +470,7 @@ impl Session {
                 share.ca, share.held, share.ceiling
             )),
             Fault::NotAdmitted => Some(format!(
-                "station {} holds {} and has reserved {}: it can take {can} more, as of {} free points {} are kept for reservations",
+                "station {} holds {}, reserved {}: it can take {can} more ({} points are free, {} of them kept for reservations)",
                 share.ca, share.held, share.reservation, share.free, share.unmet
             )),
             _ => None,
@@ -581,7 +485,7 @@ impl Session {
             return Ok(());
         }
         self.loaded(out)?;
-        let differences = differences(&call);
+        let differences = call.differences();
         if differences.is_empty() {
             writeln!(out, "  {}", self.style.paint(Ink::Good, "= as expected"))?;
         } else {
@@ -593,49 +497,6 @@ impl Session {
         }
         Ok(())
     }
-}
-
-/// A bad line with its text.
-fn with_text(stop: Stop, text: &str) -> Stop {
-    match stop {
-        Stop::Bad { line, reason, .. } => Stop::bad(line, reason, text),
-        other => other,
-    }
-}
-
-/// How a call differs from what was expected of it: nothing, or a sentence for each. Lines of octets, put together, are the whole answer.
-fn differences(call: &Call) -> Vec<String> {
-    let (mut number, mut answer, mut told) = (None, None::<Vec<u8>>, None::<Vec<u8>>);
-    for expectation in &call.expected {
-        match expectation {
-            Expectation::Number(expected) => number = Some(*expected),
-            Expectation::Answer(octets) => answer.get_or_insert_with(Vec::new).extend(octets),
-            Expectation::Told(octets) => told.get_or_insert_with(Vec::new).extend(octets),
-        }
-    }
-    // Octets are expected of a call that is done.
-    let number = number.unwrap_or(0);
-    let mut found = Vec::new();
-    if number != call.number {
-        found.push(format!("expected number {number}, got {}", call.number));
-    }
-    found.extend(difference("the answer", answer, &call.answer));
-    found.extend(difference("what is told", told, &call.told));
-    found
-}
-
-/// The first octet at which something differs from what was expected.
-fn difference(what: &str, expected: Option<Vec<u8>>, got: &[u8]) -> Option<String> {
-    let expected = expected.filter(|expected| expected != got)?;
-    let at = expected.iter().zip(got).take_while(|(expected, got)| expected == got).count();
-    let shown = |octets: &[u8]| octets.get(at).map_or("nothing".to_string(), |octet| format!("{octet:02X}"));
-    Some(format!(
-        "{what} has {} octets, expected {}; octet {at}, counted from 0, is {}, expected {}",
-        got.len(),
-        expected.len(),
-        shown(got),
-        shown(&expected)
-    ))
 }
 
 /// The points of an answer by type, as `: 2 M_SP_NA_1, 1 M_IT_NA_1`; nothing if it has none.

@@ -250,7 +250,7 @@ const DAMAGED: &[(&str, usize, &str)] = &[
     ("capacity 8\nstation 65536 reserve 2 ceiling 4", 2, "the largest is 65535"),
     ("capacity 8\nstation 7 2 4", 2, "'2' stands where 'reserve' should"),
     ("capacity 8\nstation 7 reserve 2", 2, "'ceiling' is missing"),
-    ("open", 1, "there is no plan to open"),
+    ("open", 1, "there is no plan"),
     ("check", 1, "there is no plan"),
     ("shares", 1, "no gateway is open"),
     ("point 7 10 type 1", 1, "no gateway is open"),
