@@ -100,12 +100,11 @@ fn run_file(file: &str, options: &Options, style: Style, out: &mut impl Write) -
             }
         },
     };
-    let typed = file == "-" && io::stdin().is_terminal();
-    if typed {
+    if file == "-" && io::stdin().is_terminal() {
         eprintln!("desk: reading what you type; 'help' lists the words, Ctrl-D ends.");
     }
     let mut session = Session::new(style, options.brief, options.check);
-    let stopped = run(&mut BufReader::new(input), typed, &mut session, out);
+    let stopped = run(&mut BufReader::new(input), io::stdout().is_terminal(), &mut session, out);
     // What was said comes before what went wrong, also where both go to one screen.
     let _ = out.flush();
     match stopped {
@@ -133,7 +132,7 @@ fn run_file(file: &str, options: &Options, style: Style, out: &mut impl Write) -
 }
 
 /// Runs a script line by line, so that what is typed is answered at once and nothing after a bad line runs.
-fn run(input: &mut impl BufRead, typed: bool, session: &mut Session, out: &mut impl Write) -> Result<(), Stop> {
+fn run(input: &mut impl BufRead, watched: bool, session: &mut Session, out: &mut impl Write) -> Result<(), Stop> {
     let mut line = 0;
     let mut octets = Vec::new();
     loop {
@@ -151,8 +150,8 @@ fn run(input: &mut impl BufRead, typed: bool, session: &mut Session, out: &mut i
         };
         let text = if line == 1 { text.trim_start_matches('\u{FEFF}') } else { text };
         session.line(line, text, out)?;
-        // A person at the keyboard wants the answer now.
-        if typed {
+        // A person who looks on wants to see it now.
+        if watched {
             out.flush()?;
         }
     }
