@@ -41,6 +41,8 @@ mod gateway;
 pub mod plan;
 mod point;
 mod proposal;
+#[cfg(test)]
+mod replay;
 mod share;
 pub mod types;
 
