@@ -14,7 +14,7 @@ static const uint16_t plan[3 * STATIONS] = {7, 2, 4};
 /* The memory is the caller's: a table, the last master clock, and room for any answer. */
 static uint8_t table[KHUVELTER_TABLE_OCTETS(CAPACITY, STATIONS)];
 static uint8_t last_clock[KHUVELTER_CLOCK_OCTETS];
-static uint8_t answer[1950];
+static uint8_t answer[KHUVELTER_SYSTEM_ANSWER_OCTETS(CAPACITY)];
 
 /* Three records: CA, IOA, type, group, counter group, spare, value. */
 static const uint8_t points[3 * KHUVELTER_RECORD_OCTETS] = {
