@@ -6,6 +6,8 @@ use std::str::SplitWhitespace;
 use khuvelter::types::{self, Class};
 use khuvelter::{Point, Proposal, Station, Update, EVERY_STATION, LARGEST_IOA, MOST_POINTS};
 
+use crate::words::printable;
+
 /// One line, read.
 #[derive(Debug, PartialEq)]
 pub enum Statement {
@@ -79,7 +81,7 @@ pub fn statement(line: &str) -> Result<Statement, String> {
     };
     let statement = match word {
         "help" => Statement::Help,
-        "say" => return Ok(Statement::Say(line.trim_start().trim_start_matches("say").trim().to_string())),
+        "say" => return Ok(Statement::Say(printable(line.trim().strip_prefix("say").unwrap_or_default().trim()))),
         "show" => Statement::Brief(words.one_of(&["full", "brief"])? == "brief"),
         "capacity" => Statement::Capacity(words.number("a capacity", u32::MAX)?),
         "station" => words.station()?,

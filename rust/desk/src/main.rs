@@ -17,6 +17,7 @@ use std::process::ExitCode;
 use session::Session;
 use stop::Stop;
 use style::Style;
+use words::printable;
 
 /// What `--help` says; the words of a script stand in it.
 const HELP: &str = include_str!("help.txt");
@@ -116,7 +117,7 @@ fn run_file(file: &str, options: &Options, style: Style, out: &mut impl Write) -
             None => 0,
         },
         Err(Stop::Bad { line, reason, text }) => {
-            eprintln!("{name}:{line}: {reason}");
+            eprintln!("{name}:{line}: {}", printable(&reason));
             if !text.trim().is_empty() {
                 eprintln!("    {}", shortened(text.trim()));
             }
@@ -157,9 +158,9 @@ fn run(input: &mut impl BufRead, watched: bool, session: &mut Session, out: &mut
     }
 }
 
-/// A line as it is shown back: no control characters, and not more of it than helps.
+/// A line as it is shown back: not more of it than helps.
 fn shortened(text: &str) -> String {
-    let mut shown: String = text.chars().take(90).map(|c| if c.is_control() { '\u{FFFD}' } else { c }).collect();
+    let mut shown = printable(&text.chars().take(90).collect::<String>());
     if text.chars().nth(90).is_some() {
         shown.push_str(" ..");
     }

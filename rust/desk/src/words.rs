@@ -15,6 +15,11 @@ pub fn hex_lines(octets: &[u8]) -> Vec<String> {
     octets.chunks(OCTETS_ON_A_LINE).map(hex).collect()
 }
 
+/// Text of a script as it may be printed: control characters, which could move a terminal's cursor or hide things, are replaced.
+pub fn printable(text: &str) -> String {
+    text.chars().map(|c| if c.is_control() { '\u{FFFD}' } else { c }).collect()
+}
+
 /// A count with its noun.
 pub fn count(number: usize, one: &str, more: &str) -> String {
     format!("{number} {}", if number == 1 { one } else { more })

@@ -330,6 +330,10 @@ fn lines_that_are_no_text_or_too_long_are_refused() {
     let output = desk(&[], &long);
     assert_eq!(output.status.code(), Some(2));
     assert!(complained(&output).starts_with("standard input:2: this line is longer than 100000 octets"));
+    // Nothing in a script moves the cursor of the terminal that it is shown on.
+    let output = desk(&[], b"say \x1b[2J\x07\n\x1b[2J\n");
+    assert_eq!(output.status.code(), Some(2));
+    assert!(!said(&output).contains('\x1b') && !complained(&output).contains('\x1b'));
     // Windows line ends and a byte order mark are fine.
     let output = desk(&[], b"\xEF\xBB\xBFcapacity 8\r\nstation 7 reserve 2 ceiling 4\r\nopen\r\n");
     assert_eq!((output.status.code(), said(&output).as_str()), (Some(0), "open: 8 points, 1 station\n"));
