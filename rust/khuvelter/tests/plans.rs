@@ -1,19 +1,9 @@
 //! What `plan::faults` says agrees with what the proved entry takes: nothing is wrong exactly if the plan opens.
 
+mod drawn;
+
+use drawn::Numbers;
 use khuvelter::{plan, Gateway, Station};
-
-/// A small generator of numbers (xorshift); a fixed start, so every run is the same.
-struct Numbers(u64);
-
-impl Numbers {
-    /// A number below a limit.
-    fn below(&mut self, limit: u64) -> u64 {
-        self.0 ^= self.0 << 13;
-        self.0 ^= self.0 >> 7;
-        self.0 ^= self.0 << 17;
-        self.0 % limit
-    }
-}
 
 /// Whether the sentences and the entry agree on a plan.
 fn agree(capacity: u32, stations: &[Station]) -> bool {
@@ -29,7 +19,7 @@ fn drawn_plans() {
     let mut numbers = Numbers(0x9E37_79B9_7F4A_7C15);
     let mut valid = 0;
     for _ in 0..20_000 {
-        let capacity = numbers.below(12) as u32;
+        let capacity = numbers.below(12);
         let mut ca = 0;
         let stations: Vec<_> = (0..numbers.below(4))
             .map(|_| {

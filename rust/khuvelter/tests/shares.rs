@@ -1,22 +1,12 @@
 //! `can_take_now` is what the proved table grants: on drawn gateways, each station is given points until one is refused.
 
+mod drawn;
+
+use drawn::Numbers;
 use khuvelter::{types, Fault, Gateway, Point, Station};
 
-/// A small generator of numbers (xorshift); a fixed start, so every run is the same.
-struct Numbers(u64);
-
-impl Numbers {
-    /// A number below a limit.
-    fn below(&mut self, limit: u32) -> u32 {
-        self.0 ^= self.0 << 13;
-        self.0 ^= self.0 >> 7;
-        self.0 ^= self.0 << 17;
-        (self.0 % u64::from(limit)) as u32
-    }
-}
-
 /// A drawn gateway with a valid plan and drawn points; points that are refused stay out.
-fn drawn(numbers: &mut Numbers) -> Gateway {
+fn drawn_gateway(numbers: &mut Numbers) -> Gateway {
     let capacity = 1 + numbers.below(24);
     let mut unsold = capacity;
     let stations: Vec<_> = (1..=1 + numbers.below(5))
@@ -50,7 +40,7 @@ fn can_take_now_is_what_is_granted() {
     let mut numbers = Numbers(0xD1B5_4A32_D192_ED03);
     let mut seen = [0; 4];
     for _ in 0..2000 {
-        let gateway = drawn(&mut numbers);
+        let gateway = drawn_gateway(&mut numbers);
         let shares = gateway.shares().unwrap();
         let held: u32 = shares.iter().map(|share| share.held).sum();
         let unmet: u32 = shares.iter().map(|share| share.own_unmet()).sum();
