@@ -113,6 +113,17 @@ impl Gateway {
     ///
     /// As [`register`](Self::register), and 16 for an address that stands earlier in the batch, with the place of the first faulty
     /// point. Every point's own tests come before the share rule is asked for any.
+    ///
+    /// ```
+    /// use khuvelter::{types, Fault, Gateway, Point, Station};
+    ///
+    /// let mut gateway = Gateway::open(8, &[Station::new(7, 2, 4)])?;
+    /// let points: Vec<_> = (1..=5).map(|ioa| Point::new(7, ioa, types::M_ME_NC_1, [0x00])).collect();
+    /// let refusal = gateway.register_all(&points).unwrap_err();
+    /// assert_eq!((refusal.fault(), refusal.place()), (Fault::CeilingReached, Some(4)));
+    /// gateway.register_all(&points[..4])?;
+    /// # Ok::<(), khuvelter::Refusal>(())
+    /// ```
     pub fn register_all(&mut self, points: &[Point]) -> Result<(), Refusal> {
         let records: Vec<u8> = points.iter().flat_map(Point::record).collect();
         let reply = ffi::register_points(&mut self.table, &records);
@@ -128,6 +139,16 @@ impl Gateway {
     /// # Errors
     ///
     /// 18, if it is not registered.
+    ///
+    /// ```
+    /// use khuvelter::{types, Fault, Gateway, Point, Station};
+    ///
+    /// let mut gateway = Gateway::open(8, &[Station::new(7, 2, 4)])?;
+    /// gateway.register(&Point::new(7, 10, types::M_SP_NA_1, [0x01]))?;
+    /// gateway.unregister(7, 10)?;
+    /// assert_eq!(gateway.unregister(7, 10).unwrap_err().fault(), Fault::NotRegistered);
+    /// # Ok::<(), khuvelter::Refusal>(())
+    /// ```
     pub fn unregister(&mut self, ca: u16, ioa: u32) -> Result<(), Refusal> {
         done(ffi::unregister_point(&mut self.table, ca, ioa))
     }
@@ -137,6 +158,15 @@ impl Gateway {
     /// # Errors
     ///
     /// None but 3, a table that the machine's memory has spoilt.
+    ///
+    /// ```
+    /// use khuvelter::{types, Gateway, Point, Station};
+    ///
+    /// let mut gateway = Gateway::open(8, &[Station::new(7, 2, 4)])?;
+    /// gateway.register(&Point::new(7, 10, types::M_SP_NA_1, [0x01]))?;
+    /// assert_eq!(gateway.unregister_all()?, 1);
+    /// # Ok::<(), khuvelter::Refusal>(())
+    /// ```
     pub fn unregister_all(&mut self) -> Result<usize, Refusal> {
         let reply = ffi::unregister_all(&mut self.table);
         done(reply)?;
@@ -148,6 +178,15 @@ impl Gateway {
     /// # Errors
     ///
     /// 12, if it is not in the plan.
+    ///
+    /// ```
+    /// use khuvelter::{Gateway, Station};
+    ///
+    /// let gateway = Gateway::open(8, &[Station::new(7, 2, 4)])?;
+    /// let share = gateway.share(7)?;
+    /// assert_eq!((share.reservation, share.ceiling, share.held, share.free, share.unmet), (2, 4, 0, 8, 2));
+    /// # Ok::<(), khuvelter::Refusal>(())
+    /// ```
     pub fn share(&self, ca: u16) -> Result<Share, Refusal> {
         let ffi::StationShare { number, reservation, ceiling, held, free, unmet } = ffi::share(&self.table, ca);
         match Fault::from_number(number) {
@@ -161,6 +200,16 @@ impl Gateway {
     /// # Errors
     ///
     /// None but 3, a table that the machine's memory has spoilt.
+    ///
+    /// ```
+    /// use khuvelter::{Gateway, Station};
+    ///
+    /// let gateway = Gateway::open(8, &[Station::new(7, 2, 4), Station::new(9, 1, 8)])?;
+    /// for share in gateway.shares()? {
+    ///     println!("station {}: {} held, can take {} now", share.ca, share.held, share.can_take_now());
+    /// }
+    /// # Ok::<(), khuvelter::Refusal>(())
+    /// ```
     pub fn shares(&self) -> Result<Vec<Share>, Refusal> {
         self.plan.iter().map(|station| self.share(station.ca)).collect()
     }
@@ -203,6 +252,16 @@ impl Gateway {
     /// # Errors
     ///
     /// 2, if the ASDU is malformed.
+    ///
+    /// ```
+    /// use khuvelter::{Fault, Gateway, Station};
+    ///
+    /// let mut gateway = Gateway::open(8, &[Station::new(7, 2, 4)])?;
+    /// let general = [0x64, 0x01, 0x06, 0x00, 0x07, 0x00, 0x00, 0x00, 0x00, 0x14];
+    /// assert_eq!(gateway.system_command(&general)?.asdus().count(), 2);
+    /// assert_eq!(gateway.system_command(&general[..9]).unwrap_err().fault(), Fault::Malformed);
+    /// # Ok::<(), khuvelter::Refusal>(())
+    /// ```
     pub fn system_command(&mut self, asdu: &[u8]) -> Result<Answer, Refusal> {
         let reply = ffi::system_command(&mut self.table, &mut self.clock, asdu, &mut self.room);
         done(reply)?;
@@ -261,6 +320,16 @@ impl Gateway {
     /// # Errors
     ///
     /// 2, if the ASDU is malformed; 6, if the proposal is bad.
+    ///
+    /// ```
+    /// use khuvelter::{Gateway, Proposal, Station};
+    ///
+    /// let mut gateway = Gateway::open(8, &[Station::new(7, 2, 4)])?;
+    /// let command = [0x2D, 0x01, 0x06, 0x00, 0x07, 0x00, 0x0A, 0x00, 0x00, 0x01];
+    /// let said = gateway.process_command(&command, &Proposal::reject(&command))?;
+    /// assert!(said.answer.asdus().all(|asdu| asdu.is_negative()) && said.spontaneous.is_silent());
+    /// # Ok::<(), khuvelter::Refusal>(())
+    /// ```
     pub fn process_command(&mut self, asdu: &[u8], proposal: &Proposal) -> Result<ProcessAnswer, Refusal> {
         let mut answer = [0; ASDU];
         let mut spontaneous = vec![0; POINT * proposal.updates.len()];
