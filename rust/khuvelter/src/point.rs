@@ -1,0 +1,98 @@
+//! A point as it is registered.
+
+/// Octets of a point's record in the C interface.
+const RECORD: usize = 24;
+
+/// The most octets of an element.
+const VALUE: usize = 12;
+
+/// The octets of a point's element: up to twelve, the rest zero. Octets past the type's element are ignored and kept as zero.
+#[derive(Clone, Copy, Debug, Default, PartialEq, Eq, Hash)]
+pub struct Value([u8; VALUE]);
+
+impl Value {
+    /// The twelve octets.
+    #[must_use]
+    pub fn octets(&self) -> &[u8; VALUE] {
+        &self.0
+    }
+}
+
+/// Octets, and zeros after them; what lies past the twelfth belongs to no element and is ignored.
+impl From<&[u8]> for Value {
+    fn from(octets: &[u8]) -> Self {
+        let mut value = [0; VALUE];
+        let length = octets.len().min(VALUE);
+        value[..length].copy_from_slice(&octets[..length]);
+        Self(value)
+    }
+}
+
+/// Octets, and zeros after them; more than twelve do not compile.
+impl<const N: usize> From<[u8; N]> for Value {
+    fn from(octets: [u8; N]) -> Self {
+        const { assert!(N <= VALUE, "an element has at most twelve octets") };
+        Self::from(&octets[..])
+    }
+}
+
+/// A point to register: its address, its type, its octets and its groups.
+///
+/// ```
+/// use khuvelter::{types, Point};
+///
+/// let counter = Point::new(7, 5, types::M_IT_NA_1, [0x2A, 0x00, 0x00, 0x00, 0x03]).in_counter_group(1);
+/// assert_eq!((counter.group, counter.counter_group), (None, Some(1)));
+/// ```
+#[derive(Clone, Copy, Debug, PartialEq, Eq, Hash)]
+pub struct Point {
+    /// The station's common address.
+    pub ca: u16,
+    /// The address in its station.
+    pub ioa: u32,
+    /// The type's number.
+    pub type_id: u8,
+    /// The octets of its element.
+    pub value: Value,
+    /// The interrogation group, 1 to 16; no group is not group 0.
+    pub group: Option<u8>,
+    /// The counter group, 1 to 4, of a counter; no group is not group 0.
+    pub counter_group: Option<u8>,
+}
+
+impl Point {
+    /// A point in no group.
+    #[must_use]
+    pub fn new(ca: u16, ioa: u32, type_id: u8, value: impl Into<Value>) -> Self {
+        Self { ca, ioa, type_id, value: value.into(), group: None, counter_group: None }
+    }
+
+    /// The same point in an interrogation group.
+    #[must_use]
+    pub fn in_group(self, group: u8) -> Self {
+        Self { group: Some(group), ..self }
+    }
+
+    /// The same point in a counter group.
+    #[must_use]
+    pub fn in_counter_group(self, group: u8) -> Self {
+        Self { counter_group: Some(group), ..self }
+    }
+
+    /// Its record: CA 2, IOA 4, type 1, has a group 1, group 1, has a counter group 1, counter group 1, spare 1, value 12.
+    pub(crate) fn record(&self) -> [u8; RECORD] {
+        let mut record = [0; RECORD];
+        record[..2].copy_from_slice(&self.ca.to_le_bytes());
+        record[2..6].copy_from_slice(&self.ioa.to_le_bytes());
+        record[6] = self.type_id;
+        record[7..9].copy_from_slice(&flag_and_group(self.group));
+        record[9..11].copy_from_slice(&flag_and_group(self.counter_group));
+        record[12..].copy_from_slice(self.value.octets());
+        record
+    }
+}
+
+/// Whether there is a group, and which.
+fn flag_and_group(group: Option<u8>) -> [u8; 2] {
+    group.map_or([0, 0], |group| [1, group])
+}
