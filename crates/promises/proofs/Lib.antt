@@ -1,3 +1,4 @@
+pub mod Answers
 pub mod Interrogation
 pub mod Shares
 pub mod Unique
