@@ -132,8 +132,8 @@ module _ (f : Table → Said) (l : Lent) where
 -- ---- which numbers a call may give
 
 -- The outcome's number is one of these.
-record Gives (ns : List ℕ) (o : Outcome) : Type 0 where
-  is-one : among ns (numberOf o) ≡ true
+pub record Gives (ns : List ℕ) (o : Outcome) : Type 0 where
+  pub is-one : among ns (numberOf o) ≡ true
 
 gives-pick : (ns : List ℕ) (b : Bool) (x y : Outcome) → Gives ns x → Gives ns y → Gives ns (pick b x y)
 gives-pick ns true x y p q = p
@@ -164,7 +164,7 @@ on-table ns f three g m = of-parsed (parse m)
     of-parsed (some t) = g t
 
 -- Registration: its own tests, and room.
-own-gives : (ns : List ℕ) → Gives ns Done → Gives ns UnknownTypeOrAddress → Gives ns StationNotPlanned → Gives ns GroupOutOfRange
+pub own-gives : (ns : List ℕ) → Gives ns Done → Gives ns UnknownTypeOrAddress → Gives ns StationNotPlanned → Gives ns GroupOutOfRange
     → Gives ns CounterGroupOutOfRange → Gives ns NotCounter → (planned : Bool) (q : Request) → Gives ns (ownFault planned q)
 unfolding ownFault
 own-gives ns d n11 n12 n13 n14 n15 planned q =
