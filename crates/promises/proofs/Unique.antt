@@ -12,6 +12,8 @@ use Rattle.registry.specs.Opening.{openOutcome, openedMemory}
 use Rattle.registry.specs.Registry.{shareOn}
 use Rattle.answers.specs.declared.Answered.{Answered}
 use Rattle.answers.specs.Said.{Said, Lent, answeredOn, lentAfter}
+use Rattle.khuvelter.specs.declared.Reply.{Reply as CReply}
+use Rattle.promises.specs.Calls.{Call, Meets}
 
 -- what is equal to one thing is equal to each other
 same : {A : Type 0} {x y z : A} → x ≡ z → y ≡ z → x ≡ y
@@ -35,3 +37,7 @@ one-share ca m r r′ p q = same p q
 pub one-said : (f : Table → Said) (l : Lent) (r r′ : Answered) (l₁ l₂ : Lent)
     → (r ≡ answeredOn f l) × (l₁ ≡ lentAfter f l) → (r′ ≡ answeredOn f l) × (l₂ ≡ lentAfter f l) → (r ≡ r′) × (l₁ ≡ l₂)
 one-said f l r r′ l₁ l₂ p q = (same (p .0) (q .0), same (p .1) (q .1))
+
+-- Every call of the C interface: what comes back, and every memory.
+pub one-outcome : (c : Call) (before : Lent) (r r′ : CReply) (after after′ : Lent) → Meets c before r after → Meets c before r′ after′ → (r ≡ r′) × (after ≡ after′)
+one-outcome c before r r′ after after′ p q = (same (p .answered) (q .answered), same (p .left) (q .left))
