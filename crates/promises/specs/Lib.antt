@@ -2,3 +2,4 @@ pub mod Calls
 pub mod Answers
 pub mod Interrogation
 pub mod Shares
+pub mod Cases
