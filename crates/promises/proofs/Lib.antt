@@ -2,5 +2,6 @@ pub mod Numbers
 pub mod Answers
 pub mod Unique
 pub mod Interrogation
+pub mod Rooms
 pub mod Shares
 pub mod Cases
