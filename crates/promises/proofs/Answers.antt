@@ -38,8 +38,9 @@ use Rattle.khuvelter.specs.declared.Reply.{Reply}
 use Rattle.khuvelter.proofs.Whole.{whole}
 use Rattle.promises.specs.Calls.{Call, processed, replyTo, withTable, leftBy}
 use Rattle.promises.specs.Calls.Call.{openTable, registerPoint, registerPoints, unregisterPoint, unregisterAll, connectionStarted, systemCommand, processCommand}
-use Rattle.promises.specs.Answers.{Refusal, Beyond, Below32, ShareRefusal, numbersOf, tableAlone, AnAnswerAndAnEnd}
+use Rattle.promises.specs.Answers.{Refusal, Beyond, Below32, ShareRefusal, numbersOf, ownOctets, tableAlone, AnAnswerAndAnEnd}
 use Rattle.promises.proofs.Numbers.{call-numbered}
+use Rattle.promises.proofs.Past.{past-own}
 
 -- ---- a refusal reports nothing and changes nothing
 
@@ -201,6 +202,8 @@ an-answer-and-an-end =
       beyond = λ c before r after m b.
           subst (λ (x : Lent). Beyond (r .octets) (r .spontaneous) before x) (sym (m .left))
           (subst (λ (x : Reply). Beyond (x .octets) (x .spontaneous) before (leftBy c before)) (sym (m .answered)) (call-beyond c before b));
+      past-the-table = λ c before r after m o t e.
+          ap (λ (x : Lent). drop (ownOctets c t) (x .table)) (m .left) ∙ past-own c before o t e;
       share = λ ca m r e. subst ShareRefusal (sym e) (share-from ca (parse m));
       table-entry = λ f m r n e.
           subst (λ (x : List ℕ). Refusal (numberOf (r .outcome)) 0 0 (tableAlone m) (tableAlone x)) (sym (e .1))

@@ -37,6 +37,7 @@ use Rattle.answers.proofs.Ends.{Ends, nothing, ends-short, ends-done}
 use Rattle.faithful.proofs.Theorem.{interrogation-faithful}
 use Rattle.system_command_handler.specs.Handler.{lentTo as lentToSystem}
 use Rattle.khuvelter.specs.Interface.{answerReply}
+use Rattle.khuvelter.proofs.Whole.{whole}
 use Rattle.promises.specs.Calls.{replyTo, leftBy}
 use Rattle.promises.specs.Calls.Call.{systemCommand}
 use Rattle.promises.specs.Interrogation.{Accepted, Reports, answerTo, TheRightAnswer}
@@ -158,6 +159,7 @@ module _ (m : List ℕ) (c : Command) (sel : Selection) (s : Station) (l : Lent)
       record {
         answered = sym (e .answers);
         replied = ap answerReply (sym (e .answers));
+        in-32-bits = λ h. whole _ (omega arith);
         left = ap back (sym (e .leaves));
         faithful = y;
         once = λ before after p is yes. y .once before after p is yes (point-among p (rising-at 0 before p after (subst (λ (ps : List Point). rising 0 ps ≡ true) is (rises m c sel s l₁ o w a))));

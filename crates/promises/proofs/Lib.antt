@@ -1,4 +1,5 @@
 pub mod Numbers
+pub mod Past
 pub mod Answers
 pub mod Unique
 pub mod Interrogation

@@ -5,17 +5,20 @@ use Prim.Native.Nat.{ℕ, _<_}
 use mathlib.Core.Path.{_≡_}
 use mathlib.Core.List.{List, [], _∷_}
 use mathlib.Core.Bool.{Bool, true, false}
+use mathlib.Core.Option.{some}
 use lib.ListN.{length, drop}
 use lib.Dec.{eqb}
 use Rattle.limits.specs.Outcome.{numberOf}
 use Rattle.limits.specs.declared.outcome.Outcome.{Outcome}
+use Rattle.octets.specs.Number.{Octets}
 use Rattle.table.specs.Table.{Table}
+use Rattle.table.specs.Memory.{parse}
 use Rattle.report.specs.Selection.{among}
 use Rattle.registry.specs.declared.Reply.{Reply as TableReply}
 use Rattle.registry.specs.declared.StationShare.{StationShare}
 use Rattle.registry.specs.Effect.{Effect, replyOn, memoryOn}
 use Rattle.registry.specs.Registry.{shareOn}
-use Rattle.registry.specs.Opening.{openOutcome, openedMemory}
+use Rattle.registry.specs.Opening.{planned, tableOctets, openOutcome, openedMemory}
 use Rattle.answers.specs.declared.Answered.{Answered}
 use Rattle.answers.specs.Said.{Said, Lent, answeredOn, lentAfter}
 use Rattle.khuvelter.specs.Interface.{flatShare}
@@ -45,6 +48,17 @@ numbersOf connectionStarted = 0 ∷ 3 ∷ 4 ∷ []
 numbersOf (systemCommand m) = 0 ∷ 1 ∷ 2 ∷ 3 ∷ 4 ∷ []
 numbersOf (processCommand m n k r us) = 0 ∷ 1 ∷ 2 ∷ 3 ∷ 4 ∷ 5 ∷ 6 ∷ []
 
+-- The octets of the table that a call finds in its memory t, or that it opens there: what lies past them is the caller's.
+abbrev pub ownOctets : Call → Table → ℕ
+ownOctets (openTable k plan) t = tableOctets k (length (planned plan))
+ownOctets (registerPoint q) t = tableOctets (t .capacity) (length (t .stations))
+ownOctets (registerPoints qs) t = tableOctets (t .capacity) (length (t .stations))
+ownOctets (unregisterPoint ca ioa) t = tableOctets (t .capacity) (length (t .stations))
+ownOctets unregisterAll t = tableOctets (t .capacity) (length (t .stations))
+ownOctets connectionStarted t = tableOctets (t .capacity) (length (t .stations))
+ownOctets (systemCommand m) t = tableOctets (t .capacity) (length (t .stations))
+ownOctets (processCommand m n k r us) t = tableOctets (t .capacity) (length (t .stations))
+
 -- The C interface reports octets in 32 bits: output memories of less than 4,294,967,296 octets.
 pub record Below32 (l : Lent) : Type 0 where
   pub answer : length (l .answer) < 4294967296
@@ -65,6 +79,8 @@ pub record AnAnswerAndAnEnd : Type 0 where
   pub numbered : (c : Call) (before : Lent) (r : Reply) (after : Lent) → Meets c before r after → among (numbersOf c) (r .number) ≡ true
   pub refusal : (c : Call) (before : Lent) (r : Reply) (after : Lent) → Meets c before r after → Refusal (r .number) (r .octets) (r .spontaneous) before after
   pub beyond : (c : Call) (before : Lent) (r : Reply) (after : Lent) → Meets c before r after → Below32 before → Beyond (r .octets) (r .spontaneous) before after
+  pub past-the-table : (c : Call) (before : Lent) (r : Reply) (after : Lent) → Meets c before r after → Octets (before .table) → (t : Table)
+      → parse (before .table) ≡ some t → drop (ownOctets c t) (after .table) ≡ drop (ownOctets c t) (before .table)
   pub share : (ca : ℕ) (m : List ℕ) (r : Share) → r ≡ flatShare (shareOn ca m) → ShareRefusal r
   -- Inside it: `register_point`, `register_points`, `unregister_point`, `unregister_all`, whatever their effect f on the table;
   pub table-entry : (f : Table → Effect) (m : List ℕ) (r : TableReply) (n : List ℕ) → (r ≡ replyOn f m) × (n ≡ memoryOn f m)

@@ -70,6 +70,7 @@ pub record Reports (m : List ℕ) (c : Command) (sel : Selection) (s : Station) 
   pub answered : answeredOn (systemSaid standardLimit (l .clock) m) (lentToSystem (l .table) (l .clock) (l .answer))
       ≡ record { outcome = Done; octets = length (answerTo m c sel s); spontaneous = 0 }
   pub replied : replyTo (systemCommand m) l ≡ record { number = 0; place = 0; octets = narrowed (length (answerTo m c sel s)); spontaneous = 0 }
+  pub in-32-bits : length (l .answer) < 4294967296 → narrowed (length (answerTo m c sel s)) ≡ length (answerTo m c sel s)
   -- the answer stands at the front of its memory, and nothing else is written, here or in any other memory;
   pub left : leftBy (systemCommand m) l
       ≡ record { table = l .table; clock = l .clock; answer = fronted (answerTo m c sel s) (l .answer); spontaneous = l .spontaneous }
