@@ -31,14 +31,15 @@ use Rattle.answers.specs.System.{systemSaid}
 use Rattle.answers.specs.Start.{startSaid}
 use Rattle.answers.proofs.Common.{refused-says-nothing, past-the-reported}
 use Rattle.starting.specs.Starting.{lentTo as lentAtStart}
-use Rattle.system_command_handler.specs.Handler.{lentTo as lentToSystem}
-use Rattle.commands.specs.Entry.{lentTo as lentToProcess}
+use Rattle.system_command_handler.specs.declared.SystemAnswered.{SystemAnswered}
+use Rattle.system_command_handler.specs.Handler.{lentTo as lentToSystem, Leaves as SystemLeaves}
+use Rattle.commands.specs.Entry.{lentTo as lentToProcess, Leaves as ProcessLeaves}
 use Rattle.khuvelter.specs.Interface.{narrowed, flatShare}
 use Rattle.khuvelter.specs.declared.Reply.{Reply}
 use Rattle.khuvelter.proofs.Whole.{whole}
 use Rattle.promises.specs.Calls.{Call, processed, replyTo, withTable, leftBy}
 use Rattle.promises.specs.Calls.Call.{openTable, registerPoint, registerPoints, unregisterPoint, unregisterAll, connectionStarted, systemCommand, processCommand}
-use Rattle.promises.specs.Answers.{Refusal, Beyond, Below32, ShareRefusal, numbersOf, ownOctets, tableAlone, AnAnswerAndAnEnd}
+use Rattle.promises.specs.Answers.{Refusal, Beyond, Below32, ShareRefusal, numbersOf, ownOctets, tableAlone, Settled, AnAnswerAndAnEnd}
 use Rattle.promises.proofs.Numbers.{call-numbered}
 use Rattle.promises.proofs.Past.{past-own}
 
@@ -188,6 +189,53 @@ share-from ca (some t) = of-station (stationOf ca (t .stations))
     of-station none = record { numbered = refl; tells-nothing = λ e. refl }
     of-station (some s) = record { numbered = refl; tells-nothing = λ e. not-both (sym e) }
 
+-- ---- the entries that answer
+
+-- What comes back is what the definition says, and the memories are some of those that it leaves, the others as they were.
+settled : (f : Table → Said) (l : Lent) (r : Answered) (after : Lent) → r ≡ answeredOn f l
+    → (isDone (answeredOn f l .outcome) ≡ false → after ≡ l) → Beyond (answeredOn f l .octets) (answeredOn f l .spontaneous) l after → Settled r l after
+settled f l r after e same past =
+    subst (λ (x : Answered). Settled x l after) (sym e)
+    (record { reports-nothing = said-refusal f l .reports-nothing; changes-nothing = same }, past)
+
+start-settled : (table answer : List ℕ) (r : Answered) (answer′ : List ℕ) → r ≡ answeredOn startSaid (lentAtStart table answer)
+    → answer′ ≡ lentAfter startSaid (lentAtStart table answer) .answer → Settled r (lentAtStart table answer) (lentAtStart table answer′)
+start-settled table answer r answer′ e a =
+    let l = lentAtStart table answer in
+    settled startSaid l r (lentAtStart table answer′) e
+    (λ n. ap (lentAtStart table) (a ∙ ap (λ (x : Lent). x .answer) (said-refusal startSaid l .changes-nothing n)))
+    (record { of-the-answer = ap (drop (answeredOn startSaid l .octets)) a ∙ said-beyond startSaid l .of-the-answer; of-the-spontaneous = refl })
+
+system-settled : (f : Table → Said) (table clock answer : List ℕ) (r : SystemAnswered) (table′ answer′ : List ℕ) → SystemLeaves f (lentToSystem table clock answer) r table′ answer′
+    → Settled (r .answered) (lentToSystem table clock answer) (lentToSystem table′ (r .clock) answer′)
+system-settled f table clock answer r table′ answer′ e =
+    let l = lentToSystem table clock answer in
+    settled f l (r .answered) (lentToSystem table′ (r .clock) answer′) (e .answered)
+    (λ n.
+    let same = said-refusal f l .changes-nothing n in
+    let t = e .table-left ∙ ap (λ (x : Lent). x .table) same in
+    let c = e .clock-left ∙ ap (λ (x : Lent). x .clock) same in
+    let a = e .answer-left ∙ ap (λ (x : Lent). x .answer) same in
+    λ j. lentToSystem (t j) (c j) (a j))
+    (record { of-the-answer = ap (drop (answeredOn f l .octets)) (e .answer-left) ∙ said-beyond f l .of-the-answer; of-the-spontaneous = refl })
+
+process-settled : (f : Table → Said) (table answer spontaneous : List ℕ) (r : Answered) (table′ answer′ spontaneous′ : List ℕ)
+    → ProcessLeaves f (lentToProcess table answer spontaneous) r table′ answer′ spontaneous′
+    → Settled r (lentToProcess table answer spontaneous) (lentToProcess table′ answer′ spontaneous′)
+process-settled f table answer spontaneous r table′ answer′ spontaneous′ e =
+    let l = lentToProcess table answer spontaneous in
+    settled f l r (lentToProcess table′ answer′ spontaneous′) (e .0)
+    (λ n.
+    let same = said-refusal f l .changes-nothing n in
+    let t = e .1 ∙ ap (λ (x : Lent). x .table) same in
+    let a = e .2 ∙ ap (λ (x : Lent). x .answer) same in
+    let s = e .3 ∙ ap (λ (x : Lent). x .spontaneous) same in
+    λ j. lentToProcess (t j) (a j) (s j))
+    (record {
+      of-the-answer = ap (drop (answeredOn f l .octets)) (e .2) ∙ said-beyond f l .of-the-answer;
+      of-the-spontaneous = ap (drop (answeredOn f l .spontaneous)) (e .3) ∙ said-beyond f l .of-the-spontaneous;
+    })
+
 -- ---- demand 1
 
 -- "Any octets, any table, any call: an answer and an end. … A refusal gives its number from document 01, reports zero octets written, and changes
@@ -211,8 +259,7 @@ an-answer-and-an-end =
       open-entry = λ k plan m r n e.
           subst (λ (x : List ℕ). Refusal (numberOf r) 0 0 (tableAlone m) (tableAlone x)) (sym (e .1))
           (subst (λ (x : Outcome). Refusal (numberOf x) 0 0 (tableAlone m) (tableAlone (openedMemory k plan m))) (sym (e .0)) (open-refusal k plan (tableAlone m)));
-      answer-entry = λ f before r after e.
-          subst (λ (x : Lent). Refusal (numberOf (r .outcome)) (r .octets) (r .spontaneous) before x × Beyond (r .octets) (r .spontaneous) before x) (sym (e .1))
-          (subst (λ (x : Answered). Refusal (numberOf (x .outcome)) (x .octets) (x .spontaneous) before (lentAfter f before) × Beyond (x .octets) (x .spontaneous) before (lentAfter f before)) (sym (e .0))
-          (said-refusal f before, said-beyond f before));
+      start-entry = λ table answer r answer′ e. start-settled table answer r answer′ (e .0) (e .1);
+      system-entry = system-settled;
+      process-entry = process-settled;
     }

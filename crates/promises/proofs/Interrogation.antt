@@ -41,7 +41,7 @@ use Rattle.khuvelter.proofs.Whole.{whole}
 use Rattle.promises.specs.Calls.{replyTo, leftBy}
 use Rattle.promises.specs.Calls.Call.{systemCommand}
 use Rattle.promises.specs.Interrogation.{Accepted, Reports, answerTo, TheRightAnswer}
-use Rattle.promises.proofs.Unique.{one-outcome, one-answer, one-opening, one-share, one-said}
+use Rattle.promises.proofs.Unique.{one-outcome, one-answer, one-opening, one-share, one-start, one-system-answer, one-process-answer}
 
 -- ---- every point of a good table has a type of the interrogation
 
@@ -181,5 +181,7 @@ the-right-answer =
       one-table-entry = one-answer;
       one-opening = one-opening;
       one-station-share = one-share;
-      one-answer-entry = one-said;
+      one-start = one-start;
+      one-system-answer = one-system-answer;
+      one-process-answer = one-process-answer;
     }

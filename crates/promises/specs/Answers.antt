@@ -21,6 +21,11 @@ use Rattle.registry.specs.Registry.{shareOn}
 use Rattle.registry.specs.Opening.{planned, tableOctets, openOutcome, openedMemory}
 use Rattle.answers.specs.declared.Answered.{Answered}
 use Rattle.answers.specs.Said.{Said, Lent, answeredOn, lentAfter}
+use Rattle.answers.specs.Start.{startSaid}
+use Rattle.starting.specs.Starting.{lentTo as lentAtStart}
+use Rattle.system_command_handler.specs.declared.SystemAnswered.{SystemAnswered}
+use Rattle.system_command_handler.specs.Handler.{lentTo as lentToSystem, Leaves as SystemLeaves}
+use Rattle.commands.specs.Entry.{lentTo as lentToProcess, Leaves as ProcessLeaves}
 use Rattle.khuvelter.specs.Interface.{flatShare}
 use Rattle.khuvelter.specs.declared.Reply.{Reply}
 use Rattle.khuvelter.specs.declared.Share.{Share}
@@ -73,6 +78,10 @@ pub record ShareRefusal (r : Share) : Type 0 where
   pub numbered : among (0 ∷ 3 ∷ 12 ∷ []) (r .number) ≡ true
   pub tells-nothing : eqb (r .number) 0 ≡ false → r ≡ record { number = r .number; reservation = 0; ceiling = 0; held = 0; free = 0; unmet = 0 }
 
+-- Both, of an entry that answers.
+abbrev pub Settled : Answered → Lent → Lent → Type 0
+Settled r before after = Refusal (numberOf (r .outcome)) (r .octets) (r .spontaneous) before after × Beyond (r .octets) (r .spontaneous) before after
+
 -- Demand 1, of whatever meets an entry's contract.
 pub record AnAnswerAndAnEnd : Type 0 where
   -- The calls of the C interface.
@@ -88,6 +97,15 @@ pub record AnAnswerAndAnEnd : Type 0 where
   -- `open`;
   pub open-entry : (k : ℕ) (plan m : List ℕ) (r : Outcome) (n : List ℕ) → (r ≡ openOutcome k plan m) × (n ≡ openedMemory k plan m)
       → Refusal (numberOf r) 0 0 (tableAlone m) (tableAlone n)
-  -- and `connection_started`, `system_command`, `process_command`, whatever they say.
-  pub answer-entry : (f : Table → Said) (before : Lent) (r : Answered) (after : Lent) → (r ≡ answeredOn f before) × (after ≡ lentAfter f before)
-      → Refusal (numberOf (r .outcome)) (r .octets) (r .spontaneous) before after × Beyond (r .octets) (r .spontaneous) before after
+  -- `connection_started`;
+  pub start-entry : (table answer : List ℕ) (r : Answered) (answer′ : List ℕ)
+      → (r ≡ answeredOn startSaid (lentAtStart table answer)) × (answer′ ≡ lentAfter startSaid (lentAtStart table answer) .answer)
+      → Settled r (lentAtStart table answer) (lentAtStart table answer′)
+  -- `system_command`, whatever f it says;
+  pub system-entry : (f : Table → Said) (table clock answer : List ℕ) (r : SystemAnswered) (table′ answer′ : List ℕ)
+      → SystemLeaves f (lentToSystem table clock answer) r table′ answer′
+      → Settled (r .answered) (lentToSystem table clock answer) (lentToSystem table′ (r .clock) answer′)
+  -- and `process_command`.
+  pub process-entry : (f : Table → Said) (table answer spontaneous : List ℕ) (r : Answered) (table′ answer′ spontaneous′ : List ℕ)
+      → ProcessLeaves f (lentToProcess table answer spontaneous) r table′ answer′ spontaneous′
+      → Settled r (lentToProcess table answer spontaneous) (lentToProcess table′ answer′ spontaneous′)

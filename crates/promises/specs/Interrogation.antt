@@ -35,7 +35,10 @@ use Rattle.answers.specs.declared.Answered.{Answered}
 use Rattle.answers.specs.Said.{Said, Lent, fronted, answeredOn, lentAfter}
 use Rattle.answers.specs.System.{interrogationType, qualifierOf, confirmed, terminated, interrogated, systemSaid}
 use Rattle.faithful.specs.Faithful.{Faithful}
-use Rattle.system_command_handler.specs.Handler.{lentTo as lentToSystem}
+use Rattle.answers.specs.Start.{startSaid}
+use Rattle.system_command_handler.specs.declared.SystemAnswered.{SystemAnswered}
+use Rattle.system_command_handler.specs.Handler.{lentTo as lentToSystem, Leaves as SystemLeaves}
+use Rattle.commands.specs.Entry.{Leaves as ProcessLeaves}
 use Rattle.khuvelter.specs.Interface.{narrowed, flatShare}
 use Rattle.khuvelter.specs.declared.Reply.{Reply}
 use Rattle.khuvelter.specs.declared.Share.{Share}
@@ -99,5 +102,10 @@ pub record TheRightAnswer : Type 0 where
       → (r ≡ openOutcome k plan m) × (n ≡ openedMemory k plan m) → (r′ ≡ openOutcome k plan m) × (n′ ≡ openedMemory k plan m) → (r ≡ r′) × (n ≡ n′)
   pub one-station-share : (ca : ℕ) (m : List ℕ) (r r′ : StationShare) → r ≡ shareOn ca m → r′ ≡ shareOn ca m → r ≡ r′
   -- `connection_started`, `system_command`, `process_command`.
-  pub one-answer-entry : (f : Table → Said) (l : Lent) (r r′ : Answered) (l₁ l₂ : Lent)
-      → (r ≡ answeredOn f l) × (l₁ ≡ lentAfter f l) → (r′ ≡ answeredOn f l) × (l₂ ≡ lentAfter f l) → (r ≡ r′) × (l₁ ≡ l₂)
+  pub one-start : (l : Lent) (r r′ : Answered) (answer answer′ : List ℕ) → (r ≡ answeredOn startSaid l) × (answer ≡ lentAfter startSaid l .answer)
+      → (r′ ≡ answeredOn startSaid l) × (answer′ ≡ lentAfter startSaid l .answer) → (r ≡ r′) × (answer ≡ answer′)
+  pub one-system-answer : (f : Table → Said) (l : Lent) (r r′ : SystemAnswered) (table table′ answer answer′ : List ℕ)
+      → SystemLeaves f l r table answer → SystemLeaves f l r′ table′ answer′ → (r ≡ r′) × (table ≡ table′) × (answer ≡ answer′)
+  pub one-process-answer : (f : Table → Said) (l : Lent) (r r′ : Answered) (table table′ answer answer′ spontaneous spontaneous′ : List ℕ)
+      → ProcessLeaves f l r table answer spontaneous → ProcessLeaves f l r′ table′ answer′ spontaneous′
+      → (r ≡ r′) × (table ≡ table′) × (answer ≡ answer′) × (spontaneous ≡ spontaneous′)
