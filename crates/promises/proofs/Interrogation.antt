@@ -41,6 +41,7 @@ use Rattle.khuvelter.proofs.Whole.{whole}
 use Rattle.promises.specs.Calls.{replyTo, leftBy}
 use Rattle.promises.specs.Calls.Call.{systemCommand}
 use Rattle.promises.specs.Interrogation.{Accepted, Reports, answerTo, TheRightAnswer}
+use Rattle.promises.proofs.Small.{answer-small}
 use Rattle.promises.proofs.Unique.{one-outcome, one-answer, one-opening, one-share, one-start, one-system-answer, one-process-answer}
 
 -- ---- every point of a good table has a type of the interrogation
@@ -156,10 +157,10 @@ module _ (m : List ℕ) (c : Command) (sel : Selection) (s : Station) (l : Lent)
   reported-once room =
       let e = answers m c sel s l₁ o w a room in
       let y = interrogation-faithful (qualifierOf m) (c .ca) sel s (rises m c sel s l₁ o w a) in
+      let n = whole (length (answerTo m c sel s)) (answer-small m c sel (tableOf (l .table)) s a (holds (l .table) o w .0)) in
       record {
         answered = sym (e .answers);
-        replied = ap answerReply (sym (e .answers));
-        in-32-bits = λ h. whole _ (omega arith);
+        replied = ap answerReply (sym (e .answers)) ∙ (λ j. record { number = 0; place = 0; octets = n j; spontaneous = 0 });
         left = ap back (sym (e .leaves));
         faithful = y;
         once = λ before after p is yes. y .once before after p is yes (point-among p (rising-at 0 before p after (subst (λ (ps : List Point). rising 0 ps ≡ true) is (rises m c sel s l₁ o w a))));

@@ -1,5 +1,6 @@
 pub mod Numbers
 pub mod Past
+pub mod Small
 pub mod Answers
 pub mod Unique
 pub mod Interrogation

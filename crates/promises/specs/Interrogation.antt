@@ -39,7 +39,7 @@ use Rattle.answers.specs.Start.{startSaid}
 use Rattle.system_command_handler.specs.declared.SystemAnswered.{SystemAnswered}
 use Rattle.system_command_handler.specs.Handler.{lentTo as lentToSystem, Leaves as SystemLeaves}
 use Rattle.commands.specs.Entry.{Leaves as ProcessLeaves}
-use Rattle.khuvelter.specs.Interface.{narrowed, flatShare}
+use Rattle.khuvelter.specs.Interface.{flatShare}
 use Rattle.khuvelter.specs.declared.Reply.{Reply}
 use Rattle.khuvelter.specs.declared.Share.{Share}
 use Rattle.promises.specs.Calls.{Call, Meets, replyTo, leftBy}
@@ -72,8 +72,7 @@ pub record Reports (m : List ℕ) (c : Command) (sel : Selection) (s : Station) 
   -- the entry `system_command` gives number 0 and the octets of the answer, and the C interface gives them on;
   pub answered : answeredOn (systemSaid standardLimit (l .clock) m) (lentToSystem (l .table) (l .clock) (l .answer))
       ≡ record { outcome = Done; octets = length (answerTo m c sel s); spontaneous = 0 }
-  pub replied : replyTo (systemCommand m) l ≡ record { number = 0; place = 0; octets = narrowed (length (answerTo m c sel s)); spontaneous = 0 }
-  pub in-32-bits : length (l .answer) < 4294967296 → narrowed (length (answerTo m c sel s)) ≡ length (answerTo m c sel s)
+  pub replied : replyTo (systemCommand m) l ≡ record { number = 0; place = 0; octets = length (answerTo m c sel s); spontaneous = 0 }
   -- the answer stands at the front of its memory, and nothing else is written, here or in any other memory;
   pub left : leftBy (systemCommand m) l
       ≡ record { table = l .table; clock = l .clock; answer = fronted (answerTo m c sel s) (l .answer); spontaneous = l .spontaneous }
