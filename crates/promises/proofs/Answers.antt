@@ -14,6 +14,7 @@ use Rattle.limits.specs.Size.{standardLimit}
 use Rattle.limits.specs.declared.outcome.Outcome.{Outcome}
 use Rattle.limits.specs.declared.outcome.Outcome.the-variants.{Done, AnswerShort, SpontaneousShort, InvalidPlan}
 use Rattle.limits.proofs.Outcomes.{not-both, first-done, done-is}
+use Rattle.octets.specs.Number.{Octets}
 use Rattle.model.specs.Request.{requestAt}
 use Rattle.table.specs.Table.{Station, Table}
 use Rattle.table.specs.Change.{stationOf}
@@ -25,6 +26,8 @@ use Rattle.registry.specs.Registry.{registering, registeringAll, unregistering,
 use Rattle.registry.specs.Opening.{opens, openOutcome, openedMemory}
 use Rattle.registry.proofs.Effects.{refusal-keeps-memory}
 use Rattle.records.specs.Records.{requestsIn}
+use Rattle.asdu.specs.declared.command.Entry.the-variants.{SystemCommands, ProcessCommands}
+use Rattle.asdu.specs.Command.{readAs}
 use Rattle.answers.specs.declared.Answered.{Answered}
 use Rattle.answers.specs.Said.{Said, Lent, fits, outcomeWith, answeredFrom, answeredOn, lentAfter}
 use Rattle.answers.specs.System.{systemSaid}
@@ -33,15 +36,16 @@ use Rattle.answers.proofs.Common.{refused-says-nothing, past-the-reported}
 use Rattle.starting.specs.Starting.{lentTo as lentAtStart}
 use Rattle.system_command_handler.specs.declared.SystemAnswered.{SystemAnswered}
 use Rattle.system_command_handler.specs.Handler.{lentTo as lentToSystem, Leaves as SystemLeaves}
-use Rattle.commands.specs.Entry.{lentTo as lentToProcess, Leaves as ProcessLeaves}
-use Rattle.khuvelter.specs.Interface.{narrowed, flatShare}
+use Rattle.commands.specs.Entry.{proposalOf, lentTo as lentToProcess, Leaves as ProcessLeaves}
+use Rattle.khuvelter.specs.Interface.{narrowed, flatShare, isSet}
 use Rattle.khuvelter.specs.declared.Reply.{Reply}
-use Rattle.khuvelter.proofs.Whole.{whole}
+use Rattle.khuvelter.proofs.Whole.{whole, started-whole}
 use Rattle.promises.specs.Calls.{Call, processed, replyTo, withTable, leftBy}
 use Rattle.promises.specs.Calls.Call.{openTable, registerPoint, registerPoints, unregisterPoint, unregisterAll, connectionStarted, systemCommand, processCommand}
-use Rattle.promises.specs.Answers.{Refusal, Beyond, Below32, ShareRefusal, numbersOf, ownOctets, tableAlone, Settled, AnAnswerAndAnEnd}
+use Rattle.promises.specs.Answers.{Refusal, Beyond, ShareRefusal, numbersOf, ownOctets, tableAlone, Settled, AnAnswerAndAnEnd}
 use Rattle.promises.proofs.Numbers.{call-numbered}
 use Rattle.promises.proofs.Past.{past-own}
+use Rattle.promises.proofs.Small.{system-small, process-small, small-whole}
 
 -- ---- a refusal reports nothing and changes nothing
 
@@ -81,7 +85,7 @@ said-beyond f l = by-test (isDone (answeredOn f l .outcome)) refl
           of-the-spontaneous = ap (λ (x : Lent). drop (answeredOn f l .spontaneous) (x .spontaneous)) n;
         }
 
--- ---- what is reported lies in the memory, so that in memories of less than 2^32 octets it arrives whole
+-- ---- what is told lies in its memory, so that in one of less than 2^32 octets it is reported whole; answers are small (Small.antt)
 
 fits-is : (octets memory : List ℕ) (o : Outcome) → isDone o ≡ false → pick (fits octets memory) Done o ≡ Done → length octets ≤ length memory
 fits-is octets memory o n e = by-test (fits octets memory) refl e
@@ -90,33 +94,26 @@ fits-is octets memory o n e = by-test (fits octets memory) refl e
     by-test true t e′ = leb-true _ _ t
     by-test false t e′ = not-both (sym n ∙ ap isDone e′)
 
-said-fits : (s : Said) (l : Lent) → outcomeWith s l ≡ Done → (length (s .answer) ≤ length (l .answer)) × (length (s .told) ≤ length (l .spontaneous))
+told-fits : (s : Said) (l : Lent) → outcomeWith s l ≡ Done → length (s .told) ≤ length (l .spontaneous)
 unfolding outcomeWith
-said-fits s l e =
+told-fits s l e =
     let told : Outcome = pick (fits (s .told) (l .spontaneous)) Done SpontaneousShort in
     let answered : Outcome = pick (fits (s .answer) (l .answer)) Done AnswerShort in
     let d = first-done told answered (first-done (s .outcome) (firstFault told answered) e .1) in
-    (fits-is (s .answer) (l .answer) AnswerShort refl (d .1), fits-is (s .told) (l .spontaneous) SpontaneousShort refl (d .0))
+    fits-is (s .told) (l .spontaneous) SpontaneousShort refl (d .0)
 
 module _ (f : Table → Said) (l : Lent) where
-  within-from : (t : Option Table) → (answeredFrom f l t .octets ≤ length (l .answer)) × (answeredFrom f l t .spontaneous ≤ length (l .spontaneous))
+  told-within : (t : Option Table) → answeredFrom f l t .spontaneous ≤ length (l .spontaneous)
   unfolding answeredFrom
-  within-from none = (omega arith, omega arith)
-  within-from (some t) = by-test (isDone (outcomeWith (f t) l)) refl
+  told-within none = omega arith
+  told-within (some t) = by-test (isDone (outcomeWith (f t) l)) refl
     where
-      by-test : (b : Bool) → isDone (outcomeWith (f t) l) ≡ b → (pick b (length (f t .answer)) 0 ≤ length (l .answer)) × (pick b (length (f t .told)) 0 ≤ length (l .spontaneous))
-      by-test true e = said-fits (f t) l (done-is _ e)
-      by-test false e = (omega arith, omega arith)
-
-  within : (answeredOn f l .octets ≤ length (l .answer)) × (answeredOn f l .spontaneous ≤ length (l .spontaneous))
-  within = within-from (parse (l .table))
-
-  -- What is narrowed to 32 bits is given as it is.
-  octets-whole : length (l .answer) < 4294967296 → narrowed (answeredOn f l .octets) ≡ answeredOn f l .octets
-  octets-whole h = let w = within .0 in whole _ (omega arith)
+      by-test : (b : Bool) → isDone (outcomeWith (f t) l) ≡ b → pick b (length (f t .told)) 0 ≤ length (l .spontaneous)
+      by-test true e = told-fits (f t) l (done-is _ e)
+      by-test false e = omega arith
 
   spontaneous-whole : length (l .spontaneous) < 4294967296 → narrowed (answeredOn f l .spontaneous) ≡ answeredOn f l .spontaneous
-  spontaneous-whole h = let w = within .1 in whole _ (omega arith)
+  spontaneous-whole h = let w = told-within (parse (l .table)) in whole _ (omega arith)
 
 -- ---- every call
 
@@ -152,31 +149,31 @@ nothing-beyond before after p q = record { of-the-answer = ap (drop 0) p; of-the
 narrowed-beyond : (n : ℕ) (x y : List ℕ) → narrowed n ≡ n → drop n x ≡ drop n y → drop (narrowed n) x ≡ drop (narrowed n) y
 narrowed-beyond n x y w e = subst (λ (k : ℕ). drop k x ≡ drop k y) (sym w) e
 
-call-beyond : (c : Call) (l : Lent) → Below32 l → Beyond (replyTo c l .octets) (replyTo c l .spontaneous) l (leftBy c l)
-call-beyond (openTable k plan) l b = nothing-beyond l (leftBy (openTable k plan) l) refl refl
-call-beyond (registerPoint q) l b = nothing-beyond l (leftBy (registerPoint q) l) refl refl
-call-beyond (registerPoints qs) l b = nothing-beyond l (leftBy (registerPoints qs) l) refl refl
-call-beyond (unregisterPoint ca ioa) l b = nothing-beyond l (leftBy (unregisterPoint ca ioa) l) refl refl
-call-beyond unregisterAll l b = nothing-beyond l (leftBy unregisterAll l) refl refl
-call-beyond connectionStarted l b =
+call-beyond : (c : Call) (l : Lent) → Octets (l .table) → length (l .spontaneous) < 4294967296 → Beyond (replyTo c l .octets) (replyTo c l .spontaneous) l (leftBy c l)
+call-beyond (openTable k plan) l o few = nothing-beyond l (leftBy (openTable k plan) l) refl refl
+call-beyond (registerPoint q) l o few = nothing-beyond l (leftBy (registerPoint q) l) refl refl
+call-beyond (registerPoints qs) l o few = nothing-beyond l (leftBy (registerPoints qs) l) refl refl
+call-beyond (unregisterPoint ca ioa) l o few = nothing-beyond l (leftBy (unregisterPoint ca ioa) l) refl refl
+call-beyond unregisterAll l o few = nothing-beyond l (leftBy unregisterAll l) refl refl
+call-beyond connectionStarted l o few =
     let l₁ = lentAtStart (l .table) (l .answer) in
     record {
-      of-the-answer = narrowed-beyond (answeredOn startSaid l₁ .octets) _ _ (octets-whole startSaid l₁ (b .answer)) (said-beyond startSaid l₁ .of-the-answer);
+      of-the-answer = narrowed-beyond (answeredOn startSaid l₁ .octets) _ _ (started-whole l₁) (said-beyond startSaid l₁ .of-the-answer);
       of-the-spontaneous = refl;
     }
-call-beyond (systemCommand m) l b =
+call-beyond (systemCommand m) l o few =
     let l₁ = lentToSystem (l .table) (l .clock) (l .answer) in
     let f = systemSaid standardLimit (l .clock) m in
     record {
-      of-the-answer = narrowed-beyond (answeredOn f l₁ .octets) _ _ (octets-whole f l₁ (b .answer)) (said-beyond f l₁ .of-the-answer);
+      of-the-answer = narrowed-beyond (answeredOn f l₁ .octets) _ _ (small-whole f l₁ o (λ t g. system-small (l .clock) m t g (readAs standardLimit SystemCommands m) refl)) (said-beyond f l₁ .of-the-answer);
       of-the-spontaneous = refl;
     }
-call-beyond (processCommand m n k rs us) l b =
+call-beyond (processCommand m n k rs us) l o few =
     let l₁ = lentToProcess (l .table) (l .answer) (l .spontaneous) in
     let f = processed m n k rs us in
     record {
-      of-the-answer = narrowed-beyond (answeredOn f l₁ .octets) _ _ (octets-whole f l₁ (b .answer)) (said-beyond f l₁ .of-the-answer);
-      of-the-spontaneous = narrowed-beyond (answeredOn f l₁ .spontaneous) _ _ (spontaneous-whole f l₁ (b .spontaneous)) (said-beyond f l₁ .of-the-spontaneous);
+      of-the-answer = narrowed-beyond (answeredOn f l₁ .octets) _ _ (small-whole f l₁ o (λ t g. process-small (proposalOf (isSet n) k rs us) (readAs standardLimit ProcessCommands m) t)) (said-beyond f l₁ .of-the-answer);
+      of-the-spontaneous = narrowed-beyond (answeredOn f l₁ .spontaneous) _ _ (spontaneous-whole f l₁ few) (said-beyond f l₁ .of-the-spontaneous);
     }
 
 -- The share of a station: 0, 3 or 12, and with 3 or 12 no other number.
@@ -247,9 +244,9 @@ an-answer-and-an-end =
       refusal = λ c before r after m.
           subst (λ (x : Lent). Refusal (r .number) (r .octets) (r .spontaneous) before x) (sym (m .left))
           (subst (λ (x : Reply). Refusal (x .number) (x .octets) (x .spontaneous) before (leftBy c before)) (sym (m .answered)) (call-refusal c before));
-      beyond = λ c before r after m b.
+      beyond = λ c before r after m o few.
           subst (λ (x : Lent). Beyond (r .octets) (r .spontaneous) before x) (sym (m .left))
-          (subst (λ (x : Reply). Beyond (x .octets) (x .spontaneous) before (leftBy c before)) (sym (m .answered)) (call-beyond c before b));
+          (subst (λ (x : Reply). Beyond (x .octets) (x .spontaneous) before (leftBy c before)) (sym (m .answered)) (call-beyond c before o few));
       past-the-table = λ c before r after m o t e.
           ap (λ (x : Lent). drop (ownOctets c t) (x .table)) (m .left) ∙ past-own c before o t e;
       share = λ ca m r e. subst ShareRefusal (sym e) (share-from ca (parse m));

@@ -64,11 +64,6 @@ ownOctets connectionStarted t = tableOctets (t .capacity) (length (t .stations))
 ownOctets (systemCommand m) t = tableOctets (t .capacity) (length (t .stations))
 ownOctets (processCommand m n k r us) t = tableOctets (t .capacity) (length (t .stations))
 
--- The C interface reports octets in 32 bits: output memories of less than 4,294,967,296 octets.
-pub record Below32 (l : Lent) : Type 0 where
-  pub answer : length (l .answer) < 4294967296
-  pub spontaneous : length (l .spontaneous) < 4294967296
-
 -- A call that only changes the table is lent no other memory.
 abbrev pub tableAlone : List ℕ → Lent
 tableAlone m = record { table = m; clock = []; answer = []; spontaneous = [] }
@@ -87,7 +82,9 @@ pub record AnAnswerAndAnEnd : Type 0 where
   -- The calls of the C interface.
   pub numbered : (c : Call) (before : Lent) (r : Reply) (after : Lent) → Meets c before r after → among (numbersOf c) (r .number) ≡ true
   pub refusal : (c : Call) (before : Lent) (r : Reply) (after : Lent) → Meets c before r after → Refusal (r .number) (r .octets) (r .spontaneous) before after
-  pub beyond : (c : Call) (before : Lent) (r : Reply) (after : Lent) → Meets c before r after → Below32 before → Beyond (r .octets) (r .spontaneous) before after
+  -- (the C interface reports octets in 32 bits: what is told spontaneously is bounded by its memory alone, so of that less than 4 GiB are lent)
+  pub beyond : (c : Call) (before : Lent) (r : Reply) (after : Lent) → Meets c before r after → Octets (before .table)
+      → length (before .spontaneous) < 4294967296 → Beyond (r .octets) (r .spontaneous) before after
   pub past-the-table : (c : Call) (before : Lent) (r : Reply) (after : Lent) → Meets c before r after → Octets (before .table) → (t : Table)
       → parse (before .table) ≡ some t → drop (ownOctets c t) (after .table) ≡ drop (ownOctets c t) (before .table)
   pub share : (ca : ℕ) (m : List ℕ) (r : Share) → r ≡ flatShare (shareOn ca m) → ShareRefusal r
