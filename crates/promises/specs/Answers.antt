@@ -79,14 +79,18 @@ Settled r before after = Refusal (numberOf (r .outcome)) (r .octets) (r .spontan
 
 -- Demand 1, of whatever meets an entry's contract.
 pub record AnAnswerAndAnEnd : Type 0 where
-  -- The calls of the C interface.
+  -- The calls of the C interface. "A refusal gives its number from document 01,
   pub numbered : (c : Call) (before : Lent) (r : Reply) (after : Lent) → Meets c before r after → among (numbersOf c) (r .number) ≡ true
+  -- reports zero octets written, and changes no table, clock or output memory."
   pub refusal : (c : Call) (before : Lent) (r : Reply) (after : Lent) → Meets c before r after → Refusal (r .number) (r .octets) (r .spontaneous) before after
-  -- (the C interface reports octets in 32 bits: what is told spontaneously is bounded by its memory alone, so of that less than 4 GiB are lent)
+  -- Document 01: "With 0, memory past the reported octets stays as it was."
+  -- (The C interface reports octets in 32 bits: what is told spontaneously is bounded by its memory alone, so of that less than 4 GiB are lent.)
   pub beyond : (c : Call) (before : Lent) (r : Reply) (after : Lent) → Meets c before r after → Octets (before .table)
       → length (before .spontaneous) < 4294967296 → Beyond (r .octets) (r .spontaneous) before after
+  -- What lies past a table's own octets is the caller's.
   pub past-the-table : (c : Call) (before : Lent) (r : Reply) (after : Lent) → Meets c before r after → Octets (before .table) → (t : Table)
       → parse (before .table) ≡ some t → drop (ownOctets c t) (after .table) ≡ drop (ownOctets c t) (before .table)
+  -- The share of a station: 3 or 12, and no other number.
   pub share : (ca : ℕ) (m : List ℕ) (r : Share) → r ≡ flatShare (shareOn ca m) → ShareRefusal r
   -- Inside it: `register_point`, `register_points`, `unregister_point`, `unregister_all`, whatever their effect f on the table;
   pub table-entry : (f : Table → Effect) (m : List ℕ) (r : TableReply) (n : List ℕ) → (r ≡ replyOn f m) × (n ≡ memoryOn f m)
