@@ -40,7 +40,7 @@ fn outcome_of(admission: Admission) -> Outcome
 }
 
 // The share rule's answer to one more point of the station of index i.
-pub fn room_at(m: &[u8], i: usize) -> Outcome
+fn room_at(m: &[u8], i: usize) -> Outcome
     requires { ⌜ (64 + 48 * two (now m) 4 + 8 * two (now m) 6 ≤ length (now m)) × (i < two (now m) 6) × (two (now m) 6 ≤ 64) × (two (now m) 8 ≤ two (now m) 4) ⌝ }
     ensures { λ r. ⌜ r ≡ roomAt (now (m .entry)) i ⌝ }
 {

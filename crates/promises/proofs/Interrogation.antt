@@ -1,4 +1,5 @@
--- An accepted interrogation of one station, with room enough for its answer, is answered as demand 2 says; with less it is number 4. Assumes nothing.
+-- Demand 2: the right answer. An accepted interrogation of one station, with room enough for its answer, is answered as the demand says; with less it is
+-- number 4; and every entry has one right answer (Unique.antt). Assumes nothing.
 use Prim.Native.Nat.{ℕ, _+_, _≤_, _<_}
 use mathlib.Core.Path.{_≡_, refl, sym, ap, _∙_, subst}
 use mathlib.Core.List.{List, [], _∷_, _++_}
@@ -34,7 +35,14 @@ use Rattle.answers.specs.Said.{Said, Lent, says, answeredOn, lentAfter, fronted
 use Rattle.answers.specs.System.{qualifierOf, confirmed, terminated, interrogated, isSilent, interrogationAnswer, reported, commandSaid, systemFrom, systemSaid}
 use Rattle.answers.proofs.Ends.{Ends, nothing, ends-short, ends-done}
 use Rattle.faithful.proofs.Theorem.{interrogation-faithful}
-use Rattle.promises.specs.Interrogation.{Accepted, Reports, answerTo}
+use Rattle.system_command_handler.specs.Handler.{lentTo as lentToSystem}
+use Rattle.khuvelter.specs.Interface.{answerReply}
+use Rattle.khuvelter.proofs.Whole.{whole}
+use Rattle.promises.specs.Calls.{replyTo, leftBy}
+use Rattle.promises.specs.Calls.Call.{systemCommand}
+use Rattle.promises.specs.Interrogation.{Accepted, Reports, answerTo, TheRightAnswer}
+use Rattle.promises.proofs.Small.{answer-small}
+use Rattle.promises.proofs.Unique.{one-outcome, one-answer, one-opening, one-share, one-start, one-system-answer, one-process-answer}
 
 -- ---- every point of a good table has a type of the interrogation
 
@@ -116,31 +124,65 @@ module _ (m : List ℕ) (c : Command) (sel : Selection) (s : Station) (l : Lent)
   rises : rising 0 (s .points) ≡ true
   rises = station-rises t (c .ca) s (holds (l .table) o w .0) (station-found (c .ca) (t .stations) s (a .planned))
 
-  -- Demand 2 at the entry, with room enough for the answer.
-  pub reports : length (answerTo m c sel s) ≤ length (l .answer) → Reports m c sel s l
-  reports room =
-      let l′ : Lent = record { table = holding (l .table) t t; clock = l .clock; answer = fronted (answerTo m c sel s) (l .answer); spontaneous = l .spontaneous } in
-      let e : Ends f l (record { outcome = Done; octets = length (answerTo m c sel s); spontaneous = 0 }) l′ =
-          ends-done f l w (length (answerTo m c sel s)) l′ (ap (λ (x : Said). x .outcome) said) (ap (λ (x : Said). x .told) said)
-          (sym (ap (λ (x : Said). length (x .answer)) said)) room
-          (sym (ap (λ (x : Said). record { table = holding (l .table) t (x .after); clock = x .clock; answer = fronted (x .answer) (l .answer); spontaneous = l .spontaneous }) said))
-      in
-      let y = interrogation-faithful (qualifierOf m) (c .ca) sel s rises in
-      record {
-        outcome = sym (ap (λ (r : Answered). r .outcome) (e .answers));
-        octets = sym (ap (λ (r : Answered). r .octets) (e .answers));
-        answer = sym (ap (λ (x : Lent). x .answer) (e .leaves));
-        table = sym (ap (λ (x : Lent). x .table) (e .leaves)) ∙ sym (printed (l .table) o (passed (l .table) w));
-        clock = sym (ap (λ (x : Lent). x .clock) (e .leaves));
-        faithful = y;
-        once = λ before after p is yes. y .once before after p is yes (point-among p (rising-at 0 before p after (subst (λ (ps : List Point). rising 0 ps ≡ true) is rises)));
-      }
+  -- With room enough for the answer.
+  answers : length (answerTo m c sel s) ≤ length (l .answer)
+      → Ends f l (record { outcome = Done; octets = length (answerTo m c sel s); spontaneous = 0 })
+      (record { table = l .table; clock = l .clock; answer = fronted (answerTo m c sel s) (l .answer); spontaneous = l .spontaneous })
+  answers room =
+      ends-done f l w (length (answerTo m c sel s)) _ (ap (λ (x : Said). x .outcome) said) (ap (λ (x : Said). x .told) said)
+      (sym (ap (λ (x : Said). length (x .answer)) said)) room
+      (ap (λ (n : List ℕ). record { table = n; clock = l .clock; answer = fronted (answerTo m c sel s) (l .answer); spontaneous = l .spontaneous })
+      (printed (l .table) o (passed (l .table) w))
+      ∙ sym (ap (λ (x : Said). record { table = holding (l .table) t (x .after); clock = x .clock; answer = fronted (x .answer) (l .answer); spontaneous = l .spontaneous }) said))
 
   -- With less room it is number 4, nothing is reported, and every memory is as it was.
-  pub too-long : length (l .answer) < length (answerTo m c sel s) → (answeredOn f l ≡ nothing AnswerShort) × (lentAfter f l ≡ l)
-  too-long short =
-      let e : Ends f l (nothing AnswerShort) l =
-          ends-short f l w (ap (λ (x : Said). x .outcome) said) (ap (λ (x : Said). x .told) said)
-          (subst (λ (x : Said). length (l .answer) < length (x .answer)) (sym said) short)
-      in
-      (sym (e .answers), sym (e .leaves))
+  is-too-long : length (l .answer) < length (answerTo m c sel s) → Ends f l (nothing AnswerShort) l
+  is-too-long short =
+      ends-short f l w (ap (λ (x : Said). x .outcome) said) (ap (λ (x : Said). x .told) said)
+      (subst (λ (x : Said). length (l .answer) < length (x .answer)) (sym said) short)
+
+-- ---- demand 2
+
+module _ (m : List ℕ) (c : Command) (sel : Selection) (s : Station) (l : Lent) (o : Octets (l .table)) (w : wellFormed (l .table) ≡ true)
+    (a : Accepted m c sel (tableOf (l .table)) s) where
+  -- what the entry for system commands is lent
+  abbrev l₁ : Lent
+  l₁ = lentToSystem (l .table) (l .clock) (l .answer)
+
+  -- the memories of the C interface
+  abbrev back : Lent → Lent
+  back x = record { table = x .table; clock = x .clock; answer = x .answer; spontaneous = l .spontaneous }
+
+  reported-once : length (answerTo m c sel s) ≤ length (l .answer) → Reports m c sel s l
+  reported-once room =
+      let e = answers m c sel s l₁ o w a room in
+      let y = interrogation-faithful (qualifierOf m) (c .ca) sel s (rises m c sel s l₁ o w a) in
+      let n = whole (length (answerTo m c sel s)) (answer-small m c sel (tableOf (l .table)) s a (holds (l .table) o w .0)) in
+      record {
+        answered = sym (e .answers);
+        replied = ap answerReply (sym (e .answers)) ∙ (λ j. record { number = 0; place = 0; octets = n j; spontaneous = 0 });
+        left = ap back (sym (e .leaves));
+        faithful = y;
+        once = λ before after p is yes. y .once before after p is yes (point-among p (rising-at 0 before p after (subst (λ (ps : List Point). rising 0 ps ≡ true) is (rises m c sel s l₁ o w a))));
+      }
+
+  refused-whole : length (l .answer) < length (answerTo m c sel s)
+      → (replyTo (systemCommand m) l ≡ record { number = 4; place = 0; octets = 0; spontaneous = 0 }) × (leftBy (systemCommand m) l ≡ l)
+  refused-whole short =
+      let e = is-too-long m c sel s l₁ o w a short in
+      (ap answerReply (sym (e .answers)), ap back (sym (e .leaves)))
+
+pub the-right-answer : TheRightAnswer
+the-right-answer =
+    record {
+      reports = reported-once;
+      too-long = refused-whole;
+      one-outcome = one-outcome;
+      one-share = λ ca m r r′ p q. p ∙ sym q;
+      one-table-entry = one-answer;
+      one-opening = one-opening;
+      one-station-share = one-share;
+      one-start = one-start;
+      one-system-answer = one-system-answer;
+      one-process-answer = one-process-answer;
+    }

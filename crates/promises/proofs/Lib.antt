@@ -1,3 +1,9 @@
-pub mod Interrogation
-pub mod Shares
+pub mod Numbers
+pub mod Past
+pub mod Small
+pub mod Answers
 pub mod Unique
+pub mod Interrogation
+pub mod Rooms
+pub mod Shares
+pub mod Cases

@@ -1,1 +1,5 @@
+pub mod Calls
+pub mod Answers
 pub mod Interrogation
+pub mod Shares
+pub mod Cases

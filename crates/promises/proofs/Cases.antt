@@ -1,0 +1,242 @@
+-- The starred cases: the whole table is computed on the tables that the memories hold, and a law brings that to the entries' own contracts on memory.
+-- Assumes nothing.
+use Prim.Native.Nat.{ℕ, zero, suc, _+_}
+use mathlib.Core.Path.{_≡_, refl, sym, ap, _∙_}
+use mathlib.Core.List.{List, [], _∷_, _++_, map}
+use mathlib.Core.Bool.{Bool, true, false}
+use mathlib.Core.Option.{Option, none, some}
+use native.Mathlib.Omega.{arith}
+use lib.ListN.{length, drop, replicate, length-replicate}
+use lib.Dec.{eqb}
+use borrow.Author.Tests.{eqb-true}
+use Rattle.limits.specs.Test.{_&_, pick, total}
+use Rattle.limits.specs.Outcome.{numberOf, isDone}
+use Rattle.limits.specs.Size.{standardLimit, pointTypes, systemTypes, processTypes, endTypes, namedTypes, pointOctets, elementOctets, octetsIn, listed, classOf}
+use Rattle.limits.proofs.Tests.{both}
+use Rattle.limits.proofs.Outcomes.{not-both}
+use Rattle.model.specs.Request.{requestAt, ownFault, pointOf, element}
+use Rattle.table.specs.Table.{Table, planOk, numbersOk}
+use Rattle.table.specs.Change.{stationOf, inStation, changed, seekIn, known, insertIn, removeIn, added, removed}
+use Rattle.table.specs.Memory.{parse}
+use Rattle.table.proofs.Parse.{Good, good-is, is-good}
+use Rattle.asdu.specs.Command.{readAs}
+use Rattle.asdu.specs.Confirmation.{confirmation, reply}
+use Rattle.asdu.specs.Header.{header, object, asdu}
+use Rattle.report.specs.Packing.{selected, joined, flat, cut, chunks, Each}
+use Rattle.report.specs.Selection.{interrogationTypes, counterTypes}
+use Rattle.report.specs.Report.{objectOf, octetsOf, pieces, asdus, report}
+use Rattle.report.specs.Order.{pointsFor}
+use Rattle.registry.specs.Effect.{Effect, next, replyFrom, replyOn, memoryOn}
+use Rattle.registry.specs.Registry.{isPlanned, isRegistered, roomFault, requestOutcome, registering, unregistering}
+use Rattle.registry.specs.Opening.{planned, tableOctets, validPlan, opens, fresh, openedMemory}
+use Rattle.registry.specs.History.Call.{register, unregister, command}
+use Rattle.registry.proofs.Effects.{parse-after}
+use Rattle.registry.proofs.Histories.{keeps}
+use Rattle.opening.proofs.Fresh.{opens-good, opened-parses, opens-done}
+use Rattle.answers.specs.Said.{Said, Lent, fronted, outcomeWith, answeredFrom, lentFrom, answeredOn, lentAfter}
+use Rattle.answers.specs.System.{systemSaid, systemFrom, isSilent, commandSaid, interrogationAnswer, counterAnswer, afterCounters, resetAt, resetIn, reported}
+use Rattle.answers.proofs.Common.{effectIn, command-effect}
+use Rattle.answers.proofs.Quiet.{system-quiet}
+use Rattle.system_command_handler.specs.Handler.{lentTo as lentToSystem}
+use Rattle.khuvelter.specs.Interface.{placeReply, answerReply}
+use Rattle.khuvelter.specs.declared.Reply.{Reply}
+use Rattle.promises.specs.Calls.{Call, replyTo, leftBy}
+use Rattle.promises.specs.Calls.Call.{openTable, registerPoint, registerPoints, unregisterPoint, unregisterAll, connectionStarted, systemCommand, processCommand}
+use Rattle.promises.specs.Cases.{Line, Case, lentFor, Comes, memoryFor, Holds, many, objects, cases, AllCases}
+
+-- ---- a call on the table that a memory holds
+
+-- What it gives back, the octets that it says, and the table after it.
+record Went : Type 0 where
+  reply : Reply
+  said : List ℕ
+  after : Table
+
+abbrev effected : (Table → Effect) → Table → Went
+effected f t = record { reply = placeReply (record { outcome = f t .outcome; place = f t .place }); said = []; after = next f t }
+
+abbrev answered : (Table → Said) → Lent → Table → Went
+answered f l t =
+    record { reply = answerReply (answeredFrom f l (some t)); said = pick (isDone (outcomeWith (f t) l)) (f t .answer) []; after = next (effectIn f l) t }
+
+-- The calls that the cases make, with this clock and this answer memory.
+unfoldable went : Call → List ℕ → List ℕ → Table → Option Went
+went (openTable k plan) clock answer t = none
+went (registerPoint q) clock answer t = some (effected (registering (requestAt q 0)) t)
+went (registerPoints qs) clock answer t = none
+went (unregisterPoint ca ioa) clock answer t = some (effected (unregistering ca ioa) t)
+went unregisterAll clock answer t = none
+went connectionStarted clock answer t = none
+went (systemCommand m) clock answer t = some (answered (systemSaid standardLimit clock m) (lentToSystem [] clock answer) t)
+went (processCommand m n k r us) clock answer t = none
+
+-- The memory holds a good table.
+record Has (m : List ℕ) (t : Table) : Type 0 where
+  read : parse m ≡ some t
+  is-good : Good t
+
+-- The call on the memory is the call on the table.
+record Is (c : Call) (l : Lent) (w : Went) : Type 0 where
+  replied : replyTo c l ≡ w .reply
+  wrote : leftBy c l .answer ≡ fronted (w .said) (l .answer)
+  left : Has (leftBy c l .table) (w .after)
+
+module _ (l : Lent) (t : Table) (h : Has (l .table) t) where
+  register-is : (q : List ℕ) → Is (registerPoint q) l (effected (registering (requestAt q 0)) t)
+  unfolding replyFrom
+  register-is q =
+      let g = keeps t (h .is-good) (register (requestAt q 0) refl) .is-good in
+      record {
+        replied = ap (λ (o : Option Table). placeReply (replyFrom (registering (requestAt q 0)) o)) (h .read);
+        wrote = refl;
+        left = record { read = parse-after (registering (requestAt q 0)) (l .table) t (h .read) (is-good _ g); is-good = g };
+      }
+
+  unregister-is : (ca ioa : ℕ) → Is (unregisterPoint ca ioa) l (effected (unregistering ca ioa) t)
+  unfolding replyFrom
+  unregister-is ca ioa =
+      let g = keeps t (h .is-good) (unregister ca ioa) .is-good in
+      record {
+        replied = ap (λ (o : Option Table). placeReply (replyFrom (unregistering ca ioa) o)) (h .read);
+        wrote = refl;
+        left = record { read = parse-after (unregistering ca ioa) (l .table) t (h .read) (is-good _ g); is-good = g };
+      }
+
+  said-front : (f : Table → Said) (l₁ : Lent) → lentFrom f l₁ (some t) .answer ≡ fronted (pick (isDone (outcomeWith (f t) l₁)) (f t .answer) []) (l₁ .answer)
+  unfolding lentFrom
+  said-front f l₁ = by-test (isDone (outcomeWith (f t) l₁)) refl
+    where
+      by-test : (b : Bool) → isDone (outcomeWith (f t) l₁) ≡ b → lentFrom f l₁ (some t) .answer ≡ fronted (pick b (f t .answer) []) (l₁ .answer)
+      by-test true e = simp e
+      by-test false e = simp e
+
+  system-is : (m : List ℕ) → Is (systemCommand m) l (answered (systemSaid standardLimit (l .clock) m) (lentToSystem [] (l .clock) (l .answer)) t)
+  unfolding answeredFrom outcomeWith effectIn
+  system-is m =
+      let f = systemSaid standardLimit (l .clock) m in
+      let l₁ = lentToSystem (l .table) (l .clock) (l .answer) in
+      let g = keeps t (h .is-good) (command (effectIn f l₁) (system-quiet standardLimit m l₁)) .is-good in
+      record {
+        replied = ap (λ (o : Option Table). answerReply (answeredFrom f l₁ o)) (h .read);
+        wrote = ap (λ (o : Option Table). lentFrom f l₁ o .answer) (h .read) ∙ said-front f l₁;
+        left = record {
+          read = ap parse (command-effect f l₁ .0) ∙ parse-after (effectIn f l₁) (l .table) t (h .read) (is-good _ g);
+          is-good = g;
+        };
+      }
+
+  -- of what went, if the cases make such a call
+  IsOf : Call → Option Went → Type 0
+  IsOf c none = Unit
+  IsOf c (some w) = Is c l w
+
+  went-is : (c : Call) → IsOf c (went c (l .clock) (l .answer) t)
+  unfolding IsOf went
+  went-is (openTable k plan) = tt
+  went-is (registerPoint q) = register-is q
+  went-is (registerPoints qs) = tt
+  went-is (unregisterPoint ca ioa) = unregister-is ca ioa
+  went-is unregisterAll = tt
+  went-is connectionStarted = tt
+  went-is (systemCommand m) = system-is m
+  went-is (processCommand m n k r us) = tt
+
+-- ---- lines, computed
+
+same : List ℕ → List ℕ → Bool
+same [] [] = true
+same [] (y ∷ ys) = false
+same (x ∷ xs) [] = false
+same (x ∷ xs) (y ∷ ys) = eqb x y & same xs ys
+
+same-is : (xs ys : List ℕ) → same xs ys ≡ true → xs ≡ ys
+unfolding same
+same-is [] [] e = refl
+same-is [] (y ∷ ys) e = not-both e
+same-is (x ∷ xs) [] e = not-both e
+same-is (x ∷ xs) (y ∷ ys) e = λ j. eqb-true x y (both _ _ e .0) j ∷ same-is xs ys (both _ _ e .1) j
+
+same-reply : Reply → Reply → Bool
+same-reply r s = eqb (r .number) (s .number) & eqb (r .place) (s .place) & eqb (r .octets) (s .octets) & eqb (r .spontaneous) (s .spontaneous)
+
+same-reply-is : (r s : Reply) → same-reply r s ≡ true → r ≡ s
+unfolding same-reply
+same-reply-is r s e =
+    let a = both _ _ e in
+    let b = both _ _ (a .1) in
+    let c = both _ _ (b .1) in
+    let n : r .number ≡ s .number = eqb-true _ _ (a .0) in
+    let p : r .place ≡ s .place = eqb-true _ _ (b .0) in
+    let o : r .octets ≡ s .octets = eqb-true _ _ (c .0) in
+    let q : r .spontaneous ≡ s .spontaneous = eqb-true _ _ (c .1) in
+    λ j. record { number = n j; place = p j; octets = o j; spontaneous = q j }
+
+-- what a line says comes back
+abbrev expected : Line → Reply
+expected x = record { number = x .number; place = 0; octets = length (flat (x .asdus)); spontaneous = 0 }
+
+-- A line comes out, and so does what follows it.
+agrees-on : Line → (Table → Bool) → Option Went → Bool
+agrees-on x rest none = false
+agrees-on x rest (some w) =
+    same-reply (w .reply) (expected x) & same (w .said) (flat (x .asdus)) & same (map length (x .asdus)) (x .sizes) & rest (w .after)
+
+agrees : List Line → Table → Bool
+agrees [] t = true
+agrees (x ∷ xs) t = agrees-on x (agrees xs) (went (x .call) (replicate 8 0) (replicate (x .room) 0xEE) t)
+
+-- What is computed comes.
+line-is : (x : Line) (xs : List Line) (m : List ℕ) (t : Table) (h : Has m t)
+    → ((u : Table) → Has (leftBy (x .call) (lentFor m x) .table) u → agrees xs u ≡ true → Comes (leftBy (x .call) (lentFor m x) .table) xs)
+    → (o : Option Went) → IsOf (lentFor m x) t h (x .call) o → agrees-on x (agrees xs) o ≡ true → Comes m (x ∷ xs)
+unfolding agrees-on Comes IsOf
+line-is x xs m t h rest none is e = not-both e
+line-is x xs m t h rest (some w) is e =
+    let a = both _ _ e in
+    let b = both _ _ (a .1) in
+    let c = both _ _ (b .1) in (
+      is .replied ∙ same-reply-is (w .reply) (expected x) (a .0),
+      is .wrote ∙ ap (λ (y : List ℕ). fronted y (replicate (x .room) 0xEE)) (same-is (w .said) (flat (x .asdus)) (b .0)),
+      same-is (map length (x .asdus)) (x .sizes) (c .0),
+      rest (w .after) (is .left) (c .1),
+    )
+
+agrees-is : (xs : List Line) (m : List ℕ) (t : Table) → Has m t → agrees xs t ≡ true → Comes m xs
+unfolding agrees Comes
+agrees-is [] m t h e = tt
+agrees-is (x ∷ xs) m t h e = line-is x xs m t h (λ u k f. agrees-is xs (leftBy (x .call) (lentFor m x) .table) u k f) _ (went-is (lentFor m x) t h (x .call)) e
+
+-- ---- cases, computed
+
+-- The plan is valid and the lines come out.
+case-agrees : Case → Bool
+case-agrees c = opens (c .capacity) (c .plan) (tableOctets (c .capacity) (length (planned (c .plan)))) & agrees (c .lines) (fresh (c .capacity) (c .plan))
+
+case-is : (c : Case) → case-agrees c ≡ true → Holds c
+unfolding case-agrees
+case-is c e =
+    let k = c .capacity in
+    let o : opens k (c .plan) (length (memoryFor c)) ≡ true = ap (opens k (c .plan)) (length-replicate _ _) ∙ both _ _ e .0 in
+    record {
+      opens = ap numberOf (opens-done k (c .plan) (memoryFor c) o);
+      comes = agrees-is (c .lines) _ (fresh k (c .plan)) (record { read = opened-parses k (c .plan) (memoryFor c) o; is-good = good-is _ (opens-good k (c .plan) _ o) }) (both _ _ e .1);
+    }
+
+all-agree : List Case → Bool
+all-agree [] = true
+all-agree (c ∷ cs) = case-agrees c & all-agree cs
+
+all-is : (cs : List Case) → all-agree cs ≡ true → Each Holds cs
+unfolding all-agree Each
+all-is [] e = tt
+all-is (c ∷ cs) e = (case-is c (both _ _ e .0), all-is cs (both _ _ e .1))
+
+-- ---- the table
+
+agreed : all-agree cases ≡ true
+unfolding cases many objects went agrees agrees-on same same-reply case-agrees all-agree _&_ total opens validPlan planned planOk numbersOk registering requestOutcome isPlanned isRegistered ownFault roomFault added changed inStation insertIn seekIn known pointOf element unregistering removed removeIn pointTypes systemTypes processTypes endTypes namedTypes pointOctets elementOctets octetsIn listed classOf stationOf readAs confirmation reply header object asdu selected joined cut chunks interrogationTypes counterTypes objectOf octetsOf pieces asdus report pointsFor systemFrom isSilent commandSaid interrogationAnswer counterAnswer afterCounters resetAt resetIn reported outcomeWith answeredFrom effectIn
+agreed = refl
+
+-- Cases a to j of document 01 come out of the entries' definitions, octet by octet.
+pub all-cases : AllCases
+all-cases = all-is cases agreed

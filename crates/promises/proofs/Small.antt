@@ -1,0 +1,329 @@
+-- The answer to an interrogation of one station has far fewer octets than 2^32: thirty types, at most 4,096 points, at most 127 objects in an ASDU.
+-- Assumes nothing.
+use Prim.Native.Nat.{ℕ, zero, suc, _+_, _*_, _-_, _/_, _≤_, _<_, min}
+use mathlib.Core.Path.{_≡_, refl, sym, ap, _∙_, subst}
+use mathlib.Core.List.{List, [], _∷_, _++_}
+use mathlib.Core.Bool.{Bool, true, false, _||_, not}
+use mathlib.Core.Option.{Option, none, some}
+use native.Mathlib.Omega.{arith}
+use native.Mathlib.Nat.{mul-le-mul-right, div-le-self, min-le-right}
+use lib.ListN.{length, length-append}
+use lib.Dec.{eqb}
+use borrow.Author.Tests.{eqb-false, leb-true}
+use Rattle.limits.specs.Test.{_&_, pick, total}
+use Rattle.limits.specs.Outcome.{isDone}
+use Rattle.limits.specs.declared.outcome.Outcome.{Outcome}
+use Rattle.limits.specs.declared.outcome.Outcome.the-variants.{Done, Silent, BadProposal}
+use Rattle.octets.specs.Number.{Octets}
+use Rattle.limits.specs.Size.{standardLimit, pointOctets, elementOctets, mostObjects, asdusOf, runOctets, controlOctets, headerOctets, addressOctets}
+use Rattle.limits.proofs.Sizes.{point-at-most}
+use Rattle.limits.proofs.Tests.{both, total-append}
+use Rattle.model.specs.declared.Point.{Point}
+use Rattle.table.specs.Table.{Station, Table, held, rising, allRising}
+use Rattle.table.specs.Change.{stationOf, pointIn}
+use Rattle.table.specs.Memory.{parse}
+use Rattle.table.proofs.Parse.{Good, good-is, parse-sound}
+use Rattle.table.proofs.Change.{station-found, station-rises}
+use Rattle.asdu.specs.declared.command.Command.{Command}
+use Rattle.asdu.specs.declared.command.Entry.the-variants.{SystemCommands}
+use Rattle.asdu.specs.declared.command.Reading.{Reading}
+use Rattle.asdu.specs.declared.command.Reading.the-variants.{LengthOutOfRange, TypeNotServed, ObjectsNotWhole, Parsed}
+use Rattle.asdu.specs.Command.{readAs}
+use Rattle.asdu.proofs.Reading.{WellRead, parsed-is}
+use Rattle.asdu.specs.Confirmation.{confirmation, echo}
+use Rattle.asdu.proofs.Lengths.{length-reply, confirmation-fits, echo-fits}
+use Rattle.report.specs.declared.Selection.{Selection}
+use Rattle.report.specs.Packing.{selected, joined, Each}
+use Rattle.report.specs.Selection.{selects, interrogationTypes, counterTypes}
+use Rattle.report.specs.Report.{ofKind, report}
+use Rattle.report.specs.Order.{pointsOf, allPoints, byAddress, pointsFor}
+use Rattle.asdu.specs.Header.{globalAddress}
+use Rattle.report.proofs.Packing.{length-joined}
+use Rattle.report.proofs.Each.{each-append, each-selected}
+use Rattle.report.proofs.Order.{length-sorted, sorted-each}
+use Rattle.report.specs.Single.{requestedAsdu}
+use Rattle.report.proofs.Report.{Whole, length-report}
+use Rattle.report.proofs.Single.{length-single}
+use Rattle.asdu.specs.Cause.{activationConfirmation}
+use Rattle.answers.specs.System.{qualifierOf, confirmed, terminated, reported, interrogationAnswer, counterAnswer, counterCause, choiceOf, chosen, interrogated, addressesIn, pointsAsked, readAnswer, interrogationType, countersType, readType, clockType, commandSaid, causeTaken, isSilent, systemFrom}
+use Rattle.answers.specs.Said.{Said, Lent, unsaid, outcomeWith, answeredFrom, answeredOn}
+use Rattle.answers.specs.Process.{Proposal, proposalOk, processCauseTaken, confirmationCause, processReply, toldBy, tableAfter, readUpdates, processFrom}
+use Rattle.faithful.proofs.Theorem.{rising-whole}
+use Rattle.khuvelter.specs.Interface.{narrowed}
+use Rattle.khuvelter.proofs.Whole.{whole}
+use Rattle.promises.specs.Interrogation.{Accepted, answerTo}
+
+-- A run of at most 4,096 objects.
+run-small : (element n : ℕ) → element ≤ 12 → n ≤ 4096 → runOctets standardLimit element n ≤ 100000
+run-small element n e h =
+    let most : mostObjects standardLimit element ≤ 127 = min-le-right _ _ in
+    let d : asdusOf (mostObjects standardLimit element) n ≤ n + (mostObjects standardLimit element - 1) = div-le-self _ _ in
+    let p : n * (3 + element) ≤ 4096 * (3 + element) = mul-le-mul-right (3 + element) h in
+    omega arith
+
+-- Runs of types, each so.
+runs-small : (f : ℕ → ℕ) → ((kind : ℕ) → f kind ≤ 100000) → (types : List ℕ) → total f types ≤ 100000 * length types
+unfolding total
+runs-small f h [] = omega arith
+runs-small f h (k ∷ ks) =
+    let one = h k in
+    let rest = runs-small f h ks in
+    omega arith
+
+-- What passes a test is no longer than the whole.
+selected-shorter : {A : Type 0} (test : A → Bool) (xs : List A) → length (selected test xs) ≤ length xs
+unfolding selected
+selected-shorter test [] = omega arith
+selected-shorter test (x ∷ xs) = by-test (selected-shorter test xs) (test x)
+  where
+    by-test : length (selected test xs) ≤ length xs → (b : Bool) → length (pick b (x ∷ selected test xs) (selected test xs)) ≤ suc (length xs)
+    by-test ih true = omega arith
+    by-test ih false = omega arith
+
+-- A station of a good table has at most 4,096 points.
+station-small : (t : Table) (ca : ℕ) (s : Station) → Good t → stationOf ca (t .stations) ≡ some s → length (s .points) ≤ 4096
+unfolding total
+station-small t ca s g e =
+    let w = station-found ca (t .stations) s e in
+    let a : total held (t .stations) ≡ total held (w .before) + (length (s .points) + total held (w .after)) = ap (total held) (w .split) ∙ total-append held (w .before) (s ∷ w .after) in
+    let few = g .few in
+    let k = g .k-high in
+    omega arith
+
+-- The report of at most 4,096 points, by at most thirty types.
+report-small : (types : List ℕ) (cause ca : ℕ) (ps : List Point) → length types ≤ 30 → Each Whole ps → length ps ≤ 4096
+    → length (report standardLimit types cause ca ps) ≤ 3000000
+report-small types cause ca ps few w h =
+    let l = length-report standardLimit (omega arith) types cause ca ps w in
+    let b = runs-small (λ kind. runOctets standardLimit (pointOctets kind) (length (ofKind kind ps)))
+    (λ kind.
+    let q = selected-shorter (λ (x : Point). eqb (x .kind) kind) ps in
+    run-small (pointOctets kind) (length (ofKind kind ps)) (point-at-most kind) (omega arith)) types in
+    omega arith
+
+-- ---- the points of a good table
+
+-- Points as described have twelve octets, and there are at most 4,096.
+record Few (ps : List Point) : Type 0 where
+  are-whole : Each Whole ps
+  few : length ps ≤ 4096
+
+few-selected : (test : Point → Bool) (ps : List Point) → Few ps → Few (selected test ps)
+few-selected test ps f =
+    let s = selected-shorter test ps in
+    let n = f .few in
+    record { are-whole = each-selected Whole test ps (f .are-whole); few = omega arith }
+
+few-own : (t : Table) (ca : ℕ) → Good t → (o : Option Station) → stationOf ca (t .stations) ≡ o → Few (pointsOf o)
+unfolding Each
+few-own t ca g none e = record { are-whole = tt; few = omega arith }
+few-own t ca g (some s) e =
+    record { are-whole = rising-whole 0 (s .points) (station-rises t ca s g (station-found _ _ _ e)); few = station-small t ca s g e }
+
+all-whole : (ss : List Station) → allRising ss ≡ true → Each Whole (joined (λ s. s .points) ss)
+unfolding allRising joined Each
+all-whole [] e = tt
+all-whole (s ∷ ss) e = each-append Whole (s .points) (joined (λ s. s .points) ss) (rising-whole 0 (s .points) (both _ _ e .0)) (all-whole ss (both _ _ e .1))
+
+few-all : (t : Table) → Good t → Few (byAddress (allPoints (t .stations)))
+unfolding allPoints
+few-all t g =
+    let l = length-sorted (λ (p : Point). p .ioa) (joined (λ s. s .points) (t .stations)) in
+    let n = length-joined (λ (s : Station). s .points) (t .stations) in
+    let few = g .few in
+    let k = g .k-high in
+    record { are-whole = sorted-each (λ (p : Point). p .ioa) Whole (joined (λ s. s .points) (t .stations)) (all-whole (t .stations) (g .rises)); few = omega arith }
+
+few-for : (t : Table) (ca : ℕ) → Good t → Few (pointsFor ca (t .stations))
+unfolding pointsFor
+few-for t ca g = by-test (eqb ca globalAddress)
+  where
+    by-test : (b : Bool) → Few (pick b (byAddress (allPoints (t .stations))) (pointsOf (stationOf ca (t .stations))))
+    by-test true = few-all t g
+    by-test false = few-own t ca g (stationOf ca (t .stations)) refl
+
+thirty : length interrogationTypes ≤ 30
+unfolding interrogationTypes
+thirty = omega arith
+
+ne-zero : (n : ℕ) → (n ≡ 0 → ⊥) → 0 < n
+ne-zero zero h = absurd (h refl)
+ne-zero (suc n) h = omega arith
+
+-- Confirmation and termination have at most 249 octets each, so the answer is small.
+pub answer-small : (m : List ℕ) (c : Command) (sel : Selection) (t : Table) (s : Station) → Accepted m c sel t s → Good t → length (answerTo m c sel s) < 4294967296
+answer-small m c sel t s a g =
+    let w = parsed-is standardLimit SystemCommands m c (a .read) in
+    let some-object : 0 < c .count = let z = eqb-false _ _ (a .object) in ne-zero (c .count) z in
+    let x : List ℕ = report standardLimit interrogationTypes (qualifierOf m) (c .ca) (selected (selects sel) (s .points)) in
+    let one = confirmation-fits standardLimit SystemCommands c m 7 false w some-object in
+    let two = confirmation-fits standardLimit SystemCommands c m 10 false w some-object in
+    let f = few-selected (selects sel) (s .points) (few-own t (c .ca) g (some s) (a .planned)) in
+    let r = report-small interrogationTypes (qualifierOf m) (c .ca) (selected (selects sel) (s .points)) thirty (f .are-whole) (f .few) in
+    let l : length (answerTo m c sel s) ≡ length (confirmed c m) + (length x + length (terminated c m)) =
+    length-append (confirmed c m) (x ++ terminated c m) ∙ ap (λ (n : ℕ). length (confirmed c m) + n) (length-append x (terminated c m)) in
+    omega arith
+
+-- ---- the points of a read command
+
+-- What is found among points of which something holds is such a point.
+each-found : (P : Point → Type 0) (ioa : ℕ) (ps : List Point) (p : Point) → Each P ps → pointIn ioa ps ≡ some p → P p
+unfolding Each pointIn
+each-found P ioa [] p h e = let z : _≡_ {A = ℕ} 0 1 = cc in absurd (omega arith)
+each-found P ioa (q ∷ qs) p h e = by-test (each-found P ioa qs p (h .1)) (eqb (q .ioa) ioa) e
+  where
+    by-test : (pointIn ioa qs ≡ some p → P p) → (b : Bool) → pick b (some q) (pointIn ioa qs) ≡ some p → P p
+    by-test ih true f = let s : q ≡ p = cc in subst P s (h .0)
+    by-test ih false f = ih f
+
+-- Points of twelve octets, at most n of them; or none where an address is missing.
+AskedFew : ℕ → Option (List Point) → Type 0
+AskedFew n none = Unit
+AskedFew n (some qs) = Each Whole qs × (length qs ≤ n)
+
+asked-few : (as′ : List ℕ) (ps : List Point) → Each Whole ps → AskedFew (length as′) (pointsAsked as′ ps)
+unfolding AskedFew pointsAsked Each
+asked-few [] ps w = (tt, omega arith)
+asked-few (a ∷ as′) ps w = by-point (pointIn a ps) refl (pointsAsked as′ ps) refl (asked-few as′ ps w)
+  where
+    by-point : (o : Option Point) → pointIn a ps ≡ o → (r : Option (List Point)) → pointsAsked as′ ps ≡ r → AskedFew (length as′) r
+        → AskedFew (suc (length as′)) (pointsAsked (a ∷ as′) ps)
+    by-point none e r f ih = simp e tt
+    by-point (some p) e none f ih = simp (e, f) tt
+    by-point (some p) e (some qs) f ih = simp (e, f) ((each-found Whole a ps p w e, ih .0), omega arith)
+
+addresses-length : (m : List ℕ) (at n : ℕ) → length (addressesIn m at n) ≡ n
+unfolding addressesIn
+addresses-length m at zero = refl
+addresses-length m at (suc n) = ap suc (addresses-length m (at + addressOctets) n)
+
+requested-small : (ca : ℕ) (qs : List Point) → Each Whole qs → length (joined (requestedAsdu ca) qs) ≤ 21 * length qs
+unfolding joined Each
+requested-small ca [] w = omega arith
+requested-small ca (q ∷ qs) w =
+    let l = length-single 5 ca q (w .0) in
+    let e = point-at-most (q .kind) in
+    let ih = requested-small ca qs (w .1) in
+    let a = length-append (requestedAsdu ca q) (joined (requestedAsdu ca) qs) in
+    omega arith
+
+-- ---- every system command
+
+-- An answer of at most 4,000,000 octets.
+pub record Small (s : Said) : Type 0 where
+  pub is-small : length (s .answer) ≤ 4000000
+
+pick-small : (b : Bool) (x y : Said) → Small x → Small y → Small (pick b x y)
+pick-small true x y p q = p
+pick-small false x y p q = q
+
+two-types : length counterTypes ≤ 30
+unfolding counterTypes
+two-types = omega arith
+
+module _ (m : List ℕ) (c : Command) (w : WellRead standardLimit SystemCommands m c) (some-object : 0 < c .count) (t : Table) (g : Good t) where
+  reply-small : (cause : ℕ) (negative : Bool) → length (confirmation c m cause negative) ≤ 249
+  reply-small cause negative = confirmation-fits standardLimit SystemCommands c m cause negative w some-object
+
+  reported-small : (types : List ℕ) (cause : ℕ) (sel : Selection) → length types ≤ 30 → length (reported standardLimit c m types cause sel (t .stations)) ≤ 4000000
+  unfolding reported
+  reported-small types cause sel few =
+      let x : List ℕ = report standardLimit types cause (c .ca) (selected (selects sel) (pointsFor (c .ca) (t .stations))) in
+      let f = few-selected (selects sel) (pointsFor (c .ca) (t .stations)) (few-for t (c .ca) g) in
+      let r = report-small types cause (c .ca) (selected (selects sel) (pointsFor (c .ca) (t .stations))) few (f .are-whole) (f .few) in
+      let one = reply-small 7 false in
+      let two = reply-small 10 false in
+      let l : length (confirmed c m ++ (x ++ terminated c m)) ≡ length (confirmed c m) + (length x + length (terminated c m)) =
+      length-append (confirmed c m) (x ++ terminated c m) ∙ ap (λ (n : ℕ). length (confirmed c m) + n) (length-append x (terminated c m)) in
+      omega arith
+
+  interrogation-small : (o : Option Selection) → length (interrogationAnswer standardLimit c m o (t .stations)) ≤ 4000000
+  unfolding interrogationAnswer
+  interrogation-small none = let r = reply-small 7 true in omega arith
+  interrogation-small (some sel) = reported-small interrogationTypes (qualifierOf m) sel thirty
+
+  counter-small : (o : Option Selection) → length (counterAnswer standardLimit c m o (t .stations)) ≤ 4000000
+  unfolding counterAnswer
+  counter-small none = let r = reply-small 7 true in omega arith
+  counter-small (some sel) = reported-small counterTypes (counterCause (choiceOf (qualifierOf m))) sel two-types
+
+  echo-small : (cause : ℕ) (negative : Bool) → length (echo c m cause negative) ≤ 249
+  echo-small cause negative = echo-fits standardLimit SystemCommands c m cause negative w
+
+  read-small : (o : Option (List Point)) → AskedFew (c .count) o → length (readAnswer c m o) ≤ 4000000
+  unfolding readAnswer AskedFew
+  read-small none f = let e = echo-small 7 true in omega arith
+  read-small (some qs) f =
+      let e = echo-small 7 false in
+      let r = requested-small (c .ca) qs (f .0) in
+      let n = f .1 in
+      let few = w .few in
+      let a = length-append (echo c m activationConfirmation false) (joined (requestedAsdu (c .ca)) qs) in
+      omega arith
+
+  -- What a command that is taken says.
+  command-small : (clock : List ℕ) → Small (commandSaid standardLimit clock m c t)
+  unfolding commandSaid
+  command-small clock =
+      let asked : AskedFew (c .count) (pointsAsked (addressesIn m headerOctets (c .count)) (pointsOf (stationOf (c .ca) (t .stations)))) =
+      subst (λ (n : ℕ). AskedFew n (pointsAsked (addressesIn m headerOctets (c .count)) (pointsOf (stationOf (c .ca) (t .stations))))) (addresses-length m headerOctets (c .count))
+      (asked-few (addressesIn m headerOctets (c .count)) (pointsOf (stationOf (c .ca) (t .stations))) (few-own t (c .ca) g (stationOf (c .ca) (t .stations)) refl .are-whole)) in
+      let e : length (echo c m activationConfirmation false) ≤ 4000000 = let z = echo-small 7 false in omega arith in
+      pick-small (eqb (c .kind) interrogationType) _ _ (record { is-small = interrogation-small (interrogated (qualifierOf m)) })
+      (pick-small (eqb (c .kind) countersType) _ _ (record { is-small = counter-small (chosen (choiceOf (qualifierOf m))) })
+      (pick-small (eqb (c .kind) readType) _ _ (record { is-small = read-small _ asked })
+      (pick-small (eqb (c .kind) clockType) _ _ (record { is-small = e }) (record { is-small = e }))))
+
+unsaid-small : (o : Outcome) (t : Table) (clock : List ℕ) → Small (unsaid o t clock)
+unsaid-small o t clock = record { is-small = omega arith }
+
+-- What any system command says: at most 4,000,000 octets.
+pub system-small : (clock m : List ℕ) (t : Table) → Good t → (r : Reading) → readAs standardLimit SystemCommands m ≡ r → Small (systemFrom standardLimit clock m r t)
+unfolding systemFrom isSilent
+system-small clock m t g LengthOutOfRange e = unsaid-small _ t clock
+system-small clock m t g TypeNotServed e = unsaid-small _ t clock
+system-small clock m t g ObjectsNotWhole e = unsaid-small _ t clock
+system-small clock m t g (Parsed c) e = by-count (eqb (c .count) 0) refl
+  where
+    by-count : (b : Bool) → eqb (c .count) 0 ≡ b
+        → Small (pick (b || (not (causeTaken (c .kind) (c .cause)) || (eqb (c .kind) interrogationType & eqb (qualifierOf m) 0))) (unsaid Silent t clock) (commandSaid standardLimit clock m c t))
+    by-count true n = unsaid-small Silent t clock
+    by-count false n =
+        pick-small (not (causeTaken (c .kind) (c .cause)) || (eqb (c .kind) interrogationType & eqb (qualifierOf m) 0)) (unsaid Silent t clock) (commandSaid standardLimit clock m c t)
+        (unsaid-small Silent t clock)
+        (command-small m c (parsed-is standardLimit SystemCommands m c e) (ne-zero (c .count) (eqb-false _ _ n)) t g clock)
+
+-- The reply octets of a proposal that is not bad.
+proposal-few : (kind : ℕ) (objects : List ℕ) → proposalOk standardLimit kind objects ≡ true → length objects ≤ 243
+unfolding proposalOk
+proposal-few kind objects e = leb-true _ _ (both _ _ (both _ _ e .1) .0)
+
+-- What any process command says to the answer memory: at most 249.
+pub process-small : (p : Proposal) (r : Reading) (t : Table) → Small (processFrom standardLimit p r t)
+unfolding processFrom
+process-small p LengthOutOfRange t = unsaid-small _ t []
+process-small p TypeNotServed t = unsaid-small _ t []
+process-small p ObjectsNotWhole t = unsaid-small _ t []
+process-small p (Parsed c) t =
+    pick-small (processCauseTaken (c .cause)) _ _ (by-proposal (proposalOk standardLimit (p .kind) (p .objects)) refl) (unsaid-small Silent t [])
+  where
+    by-proposal : (b : Bool) → proposalOk standardLimit (p .kind) (p .objects) ≡ b
+        → Small (pick b (record { outcome = Done; answer = processReply c p; told = toldBy t (readUpdates p); after = tableAfter t (readUpdates p); clock = [] }) (unsaid BadProposal t []))
+    by-proposal true e =
+        let few = proposal-few (p .kind) (p .objects) e in
+        let l = length-reply c (p .kind) (length (p .objects) / (addressOctets + elementOctets (p .kind))) (confirmationCause (c .cause)) (p .negative) (p .objects) in
+        record { is-small = omega arith }
+    by-proposal false e = unsaid-small BadProposal t []
+
+-- What is small is reported whole in 32 bits, whatever is said to a good table.
+pub small-whole : (f : Table → Said) (l : Lent) → Octets (l .table) → ((t : Table) → Good t → Small (f t)) → narrowed (answeredOn f l .octets) ≡ answeredOn f l .octets
+unfolding answeredFrom
+small-whole f l o s = of-parsed (parse (l .table)) refl
+  where
+    by-test : (b : Bool) (n : ℕ) → n ≤ 4000000 → narrowed (pick b n 0) ≡ pick b n 0
+    by-test true n h = whole n (omega arith)
+    by-test false n h = refl
+
+    of-parsed : (x : Option Table) → parse (l .table) ≡ x → narrowed (answeredFrom f l x .octets) ≡ answeredFrom f l x .octets
+    of-parsed none e = refl
+    of-parsed (some t) e = by-test (isDone (outcomeWith (f t) l)) (length (f t .answer)) (s t (good-is t (parse-sound (l .table) t o e .0)) .is-small)

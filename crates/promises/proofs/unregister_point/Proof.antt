@@ -1,0 +1,21 @@
+-- The entry's own contract, in the words of its call. Assumes nothing.
+use borrow.Author.Needs.{needs}
+use mathlib.Core.Path.{ap}
+use Rattle.promises.specs.Answers.{tableAlone}
+use Rattle.promises.proofs.unregister_point.Statement.{statement}
+use Rattle.promises.proofs.unregister_point.Tie as tie
+
+khuvelter-unregister-point-requires : tie.Need-khuvelter-unregister-point-requires
+khuvelter-unregister-point-requires c κs = search needs
+
+same-length : tie.Need-same-length
+same-length c = search needs
+
+returns : tie.Need-returns
+returns c =
+    let e = c .before .before .khuvelter-unregister-point .ensures in
+    record { answered = e .0; left = ap tableAlone (e .1) }
+
+pub unregister-point-spec : {M : Type 1} → statement M
+unregister-point-spec =
+    tie.close (tie.spec khuvelter-unregister-point-requires same-length returns)
