@@ -1,20 +1,20 @@
+-- Places, stations' numbers and number of points written one after another: `storable` has what each step asks and what they leave. Assumes nothing.
 use borrow.Author.Needs.{needs}
 use native.Mathlib.Omega.{arith}
-use mathlib.Core.Path.{_≡_, sym, ap, ap₂, _∙_, subst}
+use mathlib.Core.Path.{_≡_, sym, ap, _∙_, subst}
 use mathlib.Core.List.{List}
-use Prim.Native.Nat.{ℕ, _+_, _*_, _/_, _≤_}
+use Prim.Native.Nat.{ℕ, _+_, _*_, _/_}
 use denote.Ref.{now}
 use lib.ListN.{length}
 use Rattle.octets.specs.Over.{over}
-use Rattle.octets.specs.Number.{two, pair, Octets}
+use Rattle.octets.specs.Number.{two, pair}
 use Rattle.sorting.specs.Sorted.{sorted}
 use Rattle.merging.specs.Merge.{Rises, octetsOf, joined, placedFrom, placedOf, numbersFrom}
 use Rattle.batch.specs.Raise.{raised, Raisable}
-use Rattle.batch.proofs.Storing.{merged, Storable, storable}
+use Rattle.batch.proofs.Storing.{merged, storable}
 use Rattle.batch.proofs.store_all.Statement.{statement}
 use Rattle.batch.proofs.store_all.Tie as tie
 
--- src/lib.rt:43:9
 two-at-requires : tie.Need-two-at-requires
 two-at-requires c κs =
     let a = c .before .before .before .args in
@@ -25,7 +25,6 @@ two-at-requires c κs =
     let long = z .length-is in
     omega arith
 
--- src/lib.rt:44:9
 two-at-requires-2 : tie.Need-two-at-requires-2
 two-at-requires-2 c κs =
     let a = c .before .before .before .before .before .args in
@@ -36,7 +35,6 @@ two-at-requires-2 c κs =
     let long = z .length-is in
     omega arith
 
--- src/lib.rt:45:9
 two-at-requires-3 : tie.Need-two-at-requires-3
 two-at-requires-3 c κs =
     let a = c .before .before .before .before .before .before .before .args in
@@ -47,7 +45,6 @@ two-at-requires-3 c κs =
     let long = z .length-is in
     omega arith
 
--- src/lib.rt:46:5
 merge-requires : tie.Need-merge-requires
 merge-requires c κs =
     let a = c .before .before .before .before .before .before .before .before .before .args in
@@ -61,17 +58,14 @@ merge-requires c κs =
     let free = z .free in
     (omega arith, omega arith, subst (λ (x : ℕ). Rises 0 (placedFrom m 64 x)) (sym e) (z .rises), z .records)
 
--- src/lib.rt:47:31
 mul-raise-held : tie.Need-mul-raise-held
 mul-raise-held c =
     search needs
 
--- src/lib.rt:47:26
 add-raise-held : tie.Need-add-raise-held
 add-raise-held c =
     search needs
 
--- src/lib.rt:47:5
 raise-held-requires : tie.Need-raise-held-requires
 raise-held-requires c κs =
     let a = c .before .before .before .before .before .before .before .before .before .before .before .before .before .args in
@@ -89,7 +83,6 @@ raise-held-requires c κs =
     let raisable = subst (λ (y : ℕ). Raisable (merged m r) (now (a .taken)) 0 (64 + 48 * two m 4) y) (sym e6) (z .raisable) in
     (omega arith, omega (arith, x .kept), subst (λ (y : List ℕ). Raisable y (now (a .taken)) 0 (64 + 48 * c .before .before .before .before .before .before .before .before .before .two-at .result) (c .before .before .before .before .before .before .before .two-at2 .result)) (sym new) (subst (λ (y : ℕ). Raisable (merged m r) (now (a .taken)) 0 (64 + 48 * y) (c .before .before .before .before .before .before .before .two-at2 .result)) (sym e4) raisable))
 
--- src/lib.rt:48:27
 add-put-two : tie.Need-add-put-two
 add-put-two c =
     let a = c .before .before .before .before .before .before .before .before .before .before .before .before .before .before .before .before .before .args in
@@ -102,7 +95,6 @@ add-put-two c =
     let free = z .free in
     omega arith
 
--- src/lib.rt:48:5
 put-two-requires : tie.Need-put-two-requires
 put-two-requires c κs =
     let a = c .before .before .before .before .before .before .before .before .before .before .before .before .before .before .before .before .before .args in
@@ -116,12 +108,10 @@ put-two-requires c κs =
     let long = z .length-is in
     (omega (arith, c .before .before .before .raise-held .kept, c .before .before .before .before .before .before .before .merge .kept), omega arith)
 
--- src/lib.rt:39:1
 same-length : tie.Need-same-length
 same-length c =
     search needs
 
--- src/lib.rt:39:1
 returns : tie.Need-returns
 returns c =
     let a = c .before .before .before .before .before .before .before .before .before .before .before .before .before .before .before .before .before .before .before .before .args in
