@@ -1,5 +1,7 @@
 // The registration of a batch of points: every point's own tests, then the share rule, then all are stored, or none. From `actor.rs`.
+use batch_room::STATIONS;
 use limits::outcome::Outcome;
+use merging::RECORDS;
 use registry::Reply;
 ghost use mathlib.Core.Path.{_≡_};
 ghost use mathlib.Core.Bool.{true};
@@ -23,7 +25,7 @@ fn wide16(x: u16) -> usize
 }
 
 // Adds to what each of the n stations from `at` holds what it took in.
-fn raise_held(m: &mut [u8], taken: &[u16; 64], at: usize, n: usize)
+fn raise_held(m: &mut [u8], taken: &[u16; STATIONS], at: usize, n: usize)
     requires { ⌜ (n ≤ 64) × (at + 8 * n ≤ length (now m)) × Raisable (now m) (now taken) 0 at n ⌝ }
     ensures { λ _. ⌜ now (m .exit) ≡ raised (now (m .entry)) (now (taken .entry)) 0 at n ⌝ }
 {
@@ -37,7 +39,7 @@ fn raise_held(m: &mut [u8], taken: &[u16; 64], at: usize, n: usize)
 }
 
 // Stores the points of all records, which have passed every test; `taken` has what each station takes in, `numbers` the records in order.
-fn store_all(m: &mut [u8], records: &[u8], taken: &[u16; 64], numbers: &[u64])
+fn store_all(m: &mut [u8], records: &[u8], taken: &[u16; STATIONS], numbers: &[u64])
     requires { ⌜ (wellFormed (now m) ≡ true) × (ownTests (tableOf (now m)) [] 0 (requestsIn (now records)) .outcome ≡ Done) × (roomTests (tableOf (now m)) 0 (requestsIn (now records)) .outcome ≡ Done) × TookIn (tableOf (now m)) (requestsIn (now records)) (now taken) × (4096 ≤ length (now numbers)) × InOrder (now records) (now numbers) ⌝ }
     ensures { λ _. ⌜ now (m .exit) ≡ holding (now (m .entry)) (tableOf (now (m .entry))) (roomTests (tableOf (now (m .entry))) 0 (requestsIn (now (records .entry))) .after) ⌝ }
 {
@@ -60,14 +62,14 @@ pub fn register_points(table: &mut [u8], records: &[u8]) -> Reply
             place: 0,
         };
     }
-    let mut numbers = [0u64; 4096];
+    let mut numbers = [0u64; RECORDS];
     let apart = merging::order(records, &mut numbers);
     let own = batch_tests::own_tests(table, records, apart);
     let fault = own.outcome;
     if !fault.is_done() {
         return own;
     }
-    let mut taken = [0u16; 64];
+    let mut taken = [0u16; STATIONS];
     let room = batch_room::room_tests(table, records, &mut taken);
     let refusal = room.outcome;
     if !refusal.is_done() {
