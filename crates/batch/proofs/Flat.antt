@@ -3,17 +3,16 @@
 use mathlib.Core.Path.{_≡_, refl, sym, ap, ap₂, _∙_, subst}
 use mathlib.Core.List.{List, [], _∷_, _++_}
 use mathlib.Core.Bool.{Bool, true, false}
-use mathlib.Core.Option.{Option, none, some}
-use Prim.Native.Nat.{ℕ, zero, suc, _+_, _*_, _/_, _%_, _≤_, _<_}
+use mathlib.Core.Option.{some}
+use Prim.Native.Nat.{ℕ, _+_, _*_, _/_, _%_, _≤_, _<_}
 use native.Mathlib.Omega.{arith}
 use native.Mathlib.Nat.{add-assoc}
-use lib.ListN.{length, take, drop, getD, length-append}
+use lib.ListN.{length, take, drop}
 use lib.Seq.{getD-drop}
 use lib.Dec.{leb, eqb}
-use borrow.Author.Tests.{leb-true, leb-false, le-leb, lt-leb, eqb-true, eqb-false}
-use Rattle.limits.specs.Test.{_&_, pick, total}
+use borrow.Author.Tests.{leb-true, leb-false, le-leb, lt-leb, eqb-true}
+use Rattle.limits.specs.Test.{pick, total}
 use Rattle.limits.proofs.Tests.{both}
-use Rattle.octets.specs.Number.{two, three}
 use Rattle.octets.proofs.At.{At, at-fst, at-rest}
 use Rattle.model.specs.declared.Point.{Point}
 use Rattle.model.specs.Place.{placeOf, pointOk}
@@ -41,21 +40,18 @@ flat (s ∷ ss) = flatOf (s .ca) (s .points) ++ flat ss
 
 -- ---- their octets
 
+-- of one station
 octets-of-points : (ca : ℕ) (ps : List Point) → octetsOf (flatOf ca ps) ≡ placesOf ca ps
 unfolding flatOf octetsOf placesOf
 octets-of-points ca [] = refl
 octets-of-points ca (p ∷ ps) = ap (λ (l : List ℕ). placeOf ca p ++ l) (octets-of-points ca ps)
 
+-- The octets of all are the table's places.
 pub flat-octets : (ss : List Station) → octetsOf (flat ss) ≡ bodies ss
 unfolding flat octetsOf bodies
 flat-octets [] = refl
 flat-octets (s ∷ ss) =
     octets-append (flatOf (s .ca) (s .points)) (flat ss) ∙ ap₂ (λ (a b : List ℕ). a ++ b) (octets-of-points (s .ca) (s .points)) (flat-octets ss)
-
-length-flat-of : (ca : ℕ) (ps : List Point) → length (flatOf ca ps) ≡ length ps
-unfolding flatOf
-length-flat-of ca [] = refl
-length-flat-of ca (p ∷ ps) = ap suc (length-flat-of ca ps)
 
 -- ---- read from memory
 
@@ -64,6 +60,7 @@ address-drop : (m : List ℕ) (at : ℕ) → addressAt m at ≡ addressAt (drop 
 unfolding addressAt
 address-drop m at = simp (getD-drop, add-assoc)
 
+-- the address of a point's place
 address-here : (ca : ℕ) (p : Point) (Y : List ℕ) → addressAt (placeOf ca p ++ Y) 0 ≡ 16777216 * ca + p .ioa
 unfolding addressAt
 address-here ca p Y =
@@ -71,12 +68,14 @@ address-here ca p Y =
     let i : p .ioa % 256 + 256 * (p .ioa / 256 % 256 + 256 * (p .ioa / 65536)) ≡ p .ioa = omega arith in
     λ j. 16777216 * c j + i j
 
+-- a point's place in memory
 place-read : (m : List ℕ) (at ca : ℕ) (p : Point) → At m at (placeOf ca p) → placedAt m at ≡ placedPoint ca p
 place-read m at ca p a =
     let e : addressAt m at ≡ 16777216 * ca + p .ioa = address-drop m at ∙ ap (λ (l : List ℕ). addressAt l 0) (a .is) ∙ address-here ca p (drop (at + 48) m) in
     let f : take 48 (drop at m) ≡ placeOf ca p = ap (take 48) (a .is) in
     λ j. record { address = e j; octets = f j }
 
+-- the places of one station
 points-read : (m : List ℕ) (at ca : ℕ) (ps : List Point) → At m at (placesOf ca ps) → placedFrom m at (length ps) ≡ flatOf ca ps
 unfolding placedFrom placesOf flatOf
 points-read m at ca [] a = refl
@@ -120,16 +119,19 @@ stations-from k cap low (s ∷ ss) h p =
     first [] c f = f
     first (x ∷ ps) c f = omega arith
 
+-- what rises from a number rises from a lower one
 rises-lower : (low high : ℕ) (l : List Placed) → low ≤ high → Rises high l → Rises low l
 unfolding Rises
 rises-lower low high [] h r = tt
 rises-lower low high (x ∷ l) h r = let a : high ≤ x .address = r .0 in (omega arith, r .1)
 
+-- two lists that rise, one above the other
 rises-append : (low k : ℕ) (a b : List Placed) → low ≤ k → Rises low a → Below k a → Rises k b → Rises low (a ++ b)
 unfolding Rises Below
 rises-append low k [] b h r w s = rises-lower low k b h s
 rises-append low k (x ∷ a) b h r w s = let u : x .address < k = w .0 in (r .0, rises-append (x .address + 1) k a b (omega arith) (r .1) (w .1) s)
 
+-- the places of one station rise
 points-rise : (ca low : ℕ) (ps : List Point) → rising low ps ≡ true → Rises (16777216 * ca + low) (flatOf ca ps)
 unfolding flatOf Rises rising
 points-rise ca low [] r = tt
@@ -139,6 +141,7 @@ points-rise ca low (p ∷ ps) r =
     let e : 16777216 * ca + (p .ioa + 1) ≡ 16777216 * ca + p .ioa + 1 = omega arith in
     (omega arith, subst (λ (x : ℕ). Rises x (flatOf ca ps)) e (points-rise ca (p .ioa + 1) ps (both _ _ (r1 .1) .1)))
 
+-- the places of stations rise
 stations-rise : (cap low : ℕ) (ss : List Station) → planned cap low ss ≡ true → allRising ss ≡ true → Rises (16777216 * low) (flat ss)
 unfolding flat planned allRising Rises
 stations-rise cap low [] p r = tt
@@ -158,6 +161,7 @@ flat-rises cap ss p r = rises-lower 0 (16777216 * 1) (flat ss) (omega arith) (st
 
 -- ---- one point more
 
+-- where a point goes in its station
 insert-first : (p q : Point) (qs : List Point) → p .ioa ≤ q .ioa → insertIn p (q ∷ qs) ≡ p ∷ (q ∷ qs)
 unfolding insertIn seekIn
 insert-first p q qs h = simp (le-leb _ _ h)

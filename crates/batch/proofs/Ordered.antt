@@ -1,7 +1,7 @@
 -- A batch that passed every test, as places in order: its records fit, their addresses differ, and the places of the table with their points are
 -- the table's places with theirs put in. Assumes nothing.
 use mathlib.Core.Path.{_≡_, refl, sym, ap, _∙_, subst}
-use mathlib.Core.List.{List, [], _∷_}
+use mathlib.Core.List.{List, _∷_}
 use mathlib.Core.Bool.{Bool, true, false}
 use mathlib.Core.Option.{some}
 use Prim.Native.Nat.{ℕ, zero, suc, _+_, _*_, _/_, _%_, _≤_, _<_}
@@ -9,11 +9,10 @@ use native.Mathlib.Omega.{arith}
 use lib.ListN.{length}
 use lib.Dec.{eqb}
 use borrow.Author.Tests.{leb-true, eq-eqb}
-use Rattle.limits.specs.Test.{_&_, pick, total}
-use Rattle.limits.specs.Outcome.{isDone}
+use Rattle.limits.specs.Test.{_&_, total}
 use Rattle.limits.specs.declared.outcome.Outcome.the-variants.{Done}
 use Rattle.limits.proofs.Tests.{both, join}
-use Rattle.limits.proofs.Outcomes.{not-both, done-is}
+use Rattle.limits.proofs.Outcomes.{not-both}
 use Rattle.octets.specs.Number.{two, four}
 use Rattle.model.specs.declared.Request.{Request}
 use Rattle.model.specs.Place.{pointOk}
@@ -26,7 +25,7 @@ use Rattle.table.proofs.Shares.{plan-of}
 use Rattle.table.proofs.Cut.{held-at}
 use Rattle.table.proofs.Change.{station-found, stations-split, insert-length}
 use Rattle.registry.specs.Effect.{Effect}
-use Rattle.registry.specs.Registry.{roomFault, withRequest, roomTests}
+use Rattle.registry.specs.Registry.{withRequest, roomTests}
 use Rattle.registry.proofs.Requests.{Accepted, accepted-good}
 use Rattle.registry.proofs.Batches.{Apart, AllApart, Passes, Ready, ready-after, passes-accepted}
 use Rattle.registry.proofs.Batches.AllApart.{apart-more}
@@ -40,6 +39,7 @@ use Rattle.batch.proofs.Flat.{placedPoint, flat, flat-added}
 
 -- ---- the number of a record
 
+-- its address is in front
 number-address : (r : List ℕ) (i at : ℕ) → at ≡ 24 * i → i < 4096 → numberAt r i / 4096 ≡ 16777216 * two r at + four r (at + 2)
 unfolding numberAt
 number-address r i at e h = rw e (quotient (16777216 * two r (24 * i) + four r (24 * i + 2)) h)
@@ -47,6 +47,7 @@ number-address r i at e h = rw e (quotient (16777216 * two r (24 * i) + four r (
     quotient : (a : ℕ) → i < 4096 → (4096 * a + i) / 4096 ≡ a
     quotient a h = omega arith
 
+-- its place in the list is behind
 number-index : (r : List ℕ) (i : ℕ) → i < 4096 → numberAt r i % 4096 ≡ i
 unfolding numberAt
 number-index r i h = remainder (16777216 * two r (24 * i) + four r (24 * i + 2)) h
@@ -68,9 +69,11 @@ number-placed r i at e h =
 ready-first : (t : Table) (q : Request) (qs : List Request) → Ready t (q ∷ qs) → Passes t q × AllApart q qs × Ready t qs
 ready-first t q qs (ready-more p a y) = (p, a, y)
 
+-- whom the first is apart from
 apart-first : (a q : Request) (qs : List Request) → AllApart a (q ∷ qs) → Apart a q × AllApart a qs
 apart-first a q qs (apart-more x y) = (x, y)
 
+-- a request that passed has an IOA that a place can keep
 address-small : (t : Table) (q : Request) → Passes t q → q .ioa ≤ 16777215
 address-small t q p = faultless _ q (p .own) .address
 
@@ -94,6 +97,7 @@ differ a b c d hb hd n e =
     let z : _≡_ {A = Bool} false true = sym n ∙ join (eq-eqb _ _ x) (eq-eqb _ _ y) in
     not-both z
 
+-- no record of the others has the address of a request apart from them
 others : (r : List ℕ) (t : Table) (q : Request) (i at n : ℕ) → at ≡ 24 * i → i + n ≤ 4096 → q .ioa ≤ 16777215 → AllApart q (requestsAt r at n)
     → Ready t (requestsAt r at n) → All (Other (placedOf r) (16777216 * q .ca + q .ioa)) (numbersFrom r i n)
 unfolding All numbersFrom requestsAt
@@ -126,6 +130,7 @@ record First (t : Table) (i : ℕ) (q : Request) (qs : List Request) : Type 0 wh
   ready : Ready (withRequest t q) qs
   room : roomTests (withRequest t q) (i + 1) qs .outcome ≡ Done
 
+-- the first turn
 first-turn : (t : Table) (i : ℕ) (q : Request) (qs : List Request) → length (q .value) ≡ 12 → Good t → Ready t (q ∷ qs) → roomTests t i (q ∷ qs) .outcome ≡ Done → First t i q qs
 first-turn t i q qs w g y e =
     let p = ready-first t q qs y in
@@ -139,6 +144,7 @@ first-turn t i q qs w g y e =
       room = ap (λ (f : Effect). f .outcome) (sym (d .1)) ∙ e;
     }
 
+-- one point more is held
 held-one : (t : Table) (q : Request) (s : Station) → stationOf (q .ca) (t .stations) ≡ some s → total held (withRequest t q .stations) ≡ total held (t .stations) + 1
 unfolding added
 held-one t q s e =
@@ -150,6 +156,7 @@ held-one t q s e =
     let l = insert-length (pointOf q) (s .points) in
     omega arith
 
+-- the capacity stays
 same-capacity : (t : Table) (q : Request) → withRequest t q .capacity ≡ t .capacity
 unfolding added changed
 same-capacity t q = refl

@@ -4,11 +4,9 @@ use mathlib.Core.List.{List, [], _∷_, _++_, map, append-assoc}
 use mathlib.Core.Bool.{true}
 use Prim.Native.Nat.{ℕ, zero, suc, _+_, _*_, _-_, _/_, _%_, _≤_, _<_}
 use native.Mathlib.Omega.{arith}
-use native.Mathlib.Nat.{add-assoc}
 use lib.ListN.{length, drop, getD, length-append}
-use lib.Seq.{getD-drop, drop-at, drop-drop}
+use lib.Seq.{getD-drop, drop-at}
 use borrow.Author.Tests.{leb-true}
-use Rattle.limits.specs.Test.{_&_}
 use Rattle.limits.proofs.Tests.{both}
 use Rattle.octets.specs.Over.{over}
 use Rattle.octets.specs.Number.{two, pair}
@@ -63,6 +61,7 @@ lines-first : (s s′ : Station) (ss ss′ : List Station) (taken : List ℕ) (i
 unfolding holdingWith
 lines-first s s′ ss ss′ taken i e = (cc, cc)
 
+-- no line for a station, no station for a line
 no-station : (s′ : Station) (ss′ : List Station) (taken : List ℕ) (i : ℕ) → map holdingOf (s′ ∷ ss′) ≡ holdingWith [] taken i → _≡_ {A = ℕ} 0 1
 unfolding holdingWith
 no-station s′ ss′ taken i e = cc
@@ -127,6 +126,7 @@ two-same m m′ b j e h =
     let q = at-is (j + 1 - b) (j + 1) y in
     λ k. p k + 256 * q k
 
+-- what can be raised from b on still can
 raisable-past : (m m′ taken : List ℕ) (b i at n : ℕ) → drop b m′ ≡ drop b m → b ≤ at → Raisable m taken i at n → Raisable m′ taken i at n
 unfolding Raisable
 raisable-past m m′ taken b i at zero e h r = tt
@@ -134,6 +134,7 @@ raisable-past m m′ taken b i at (suc n) e h r =
     (subst (λ (x : ℕ). x + getD taken i 0 < 65536) (sym (two-same m m′ b (at + 6) e (omega arith))) (r .0), raisable-past m m′ taken b (i + 1) (at + 8) n e (omega arith) (r .1))
 
 module _ (m taken : List ℕ) (at n : ℕ) where
+  -- before the first turn
   pub raise-start : (Raisable m taken 0 at n) → (raised m taken 0 at n ≡ raised m taken 0 (at + 8 * 0) (n - 0)) × Raisable m taken 0 (at + 8 * 0) (n - 0)
   raise-start r =
       let e : at ≡ at + 8 * 0 = omega arith in
@@ -141,6 +142,7 @@ module _ (m taken : List ℕ) (at n : ℕ) where
       (ap₂ (λ (x y : ℕ). raised m taken 0 x y) e f, subst (λ (y : ℕ). Raisable m taken 0 (at + 8 * 0) y) f (subst (λ (x : ℕ). Raisable m taken 0 x n) e r))
 
   module _ (i : ℕ) (h : i < n) (room : at + 8 * n ≤ length m) where
+    -- the next station's number written
     pub raise-on : raised m taken i (at + 8 * i) (n - i)
         ≡ raised (over m (at + 8 * i + 6) (pair (two m (at + 8 * i + 6) + getD taken i 0))) taken (i + 1) (at + 8 * (i + 1)) (n - (i + 1))
     unfolding raised
@@ -150,12 +152,14 @@ module _ (m taken : List ℕ) (at n : ℕ) where
         ap (raised m taken i (at + 8 * i)) e
         ∙ ap (λ (x : ℕ). raised (over m (at + 8 * i + 6) (pair (two m (at + 8 * i + 6) + getD taken i 0))) taken (i + 1) x (n - (i + 1))) f
 
+    -- it is a number of two octets
     pub raise-fits : Raisable m taken i (at + 8 * i) (n - i) → two m (at + 8 * i + 6) + getD taken i 0 < 65536
     unfolding Raisable
     raise-fits r =
         let e : n - i ≡ suc (n - (i + 1)) = omega arith in
         subst (λ (x : ℕ). Raisable m taken i (at + 8 * i) x) e r .0
 
+    -- the others still can be raised
     pub raisable-on : (v : ℕ) → Raisable m taken i (at + 8 * i) (n - i) → Raisable (over m (at + 8 * i + 6) (pair v)) taken (i + 1) (at + 8 * (i + 1)) (n - (i + 1))
     unfolding Raisable
     raisable-on v r =
@@ -166,6 +170,7 @@ module _ (m taken : List ℕ) (at n : ℕ) where
         (over-above m (pair v) (at + 8 * i + 6) (at + 8 * i + 8) (omega arith) (omega arith)) (omega arith)
         (subst (λ (x : ℕ). Raisable m taken (i + 1) x (n - (i + 1))) f s)
 
+  -- no station is left
   pub raise-end : (i : ℕ) → n ≤ i → raised m taken i (at + 8 * i) (n - i) ≡ m
   unfolding raised
   raise-end i h = let e : n - i ≡ 0 = omega arith in ap (raised m taken i (at + 8 * i)) e

@@ -1,9 +1,9 @@
 -- Storing a batch that passed every test: its places merged among the table's, the stations' numbers raised and the number of points written make
 -- of the table's image the image of the table that the share rule left. Assumes nothing.
 use mathlib.Core.Path.{_≡_, refl, sym, ap, ap₂, _∙_, subst}
-use mathlib.Core.List.{List, [], _∷_, _++_, map, append-assoc}
+use mathlib.Core.List.{List, [], _++_, map, append-assoc}
 use mathlib.Core.Bool.{true}
-use Prim.Native.Nat.{ℕ, _+_, _*_, _-_, _/_, _≤_, _<_}
+use Prim.Native.Nat.{ℕ, _+_, _*_, _-_, _/_, _≤_}
 use native.Mathlib.Omega.{arith}
 use lib.ListN.{length, drop, replicate, length-append, length-replicate, replicate-append-replicate}
 use Rattle.limits.specs.Test.{total}
@@ -11,7 +11,6 @@ use Rattle.limits.specs.declared.outcome.Outcome.the-variants.{Done}
 use Rattle.octets.specs.Over.{over}
 use Rattle.octets.specs.Number.{two, pair, Octets}
 use Rattle.octets.proofs.Laws.{over-at}
-use Rattle.model.specs.declared.Request.{Request}
 use Rattle.table.specs.Table.{Station, Table, held, planOk, bodies, entries, head, image}
 use Rattle.table.specs.Memory.{wellFormed, tableOf}
 use Rattle.table.proofs.Stations.{length-bodies}
@@ -39,6 +38,7 @@ module _ (k n c : ℕ) (ss ss′ : List Station) (rest : List ℕ) (count : tota
   front : List ℕ
   front = head k (length ss) n ++ (bodies ss′ ++ replicate (48 * (k - (n + c))) 0)
 
+  -- it ends where the stations begin
   front-length : length front ≡ 64 + 48 * k
   unfolding front
   front-length =
@@ -117,6 +117,7 @@ pub record Storable (m r taken : List ℕ) : Type 0 where
   pub memory : over (raised (merged m r) taken 0 (64 + 48 * two m 4) (two m 6)) 8 (pair (two m 8 + length r / 24))
       ≡ holding m (tableOf m) (roomTests (tableOf m) 0 (requestsIn r) .after)
 
+-- An accepted batch can be stored.
 pub storable : (m r taken : List ℕ) → Octets m → wellFormed m ≡ true → ownTests (tableOf m) [] 0 (requestsIn r) .outcome ≡ Done
     → roomTests (tableOf m) 0 (requestsIn r) .outcome ≡ Done → TookIn (tableOf m) (requestsIn r) taken → Storable m r taken
 storable m r taken o w own room took =

@@ -115,6 +115,7 @@ module _ (m taken r : List ℕ) (free unmet i n : ℕ) where
         ∙ (simp z)
         ∙ (λ k. record { outcome = sym e k .outcome; place = i })
 
+    -- the same of what was taken in
     pub taken-on : (later : List ℕ) → later ≡ takenAt m taken (seatAt m (two r (24 * i))) free unmet → isDone (s .outcome) ≡ true
         → takenRun m taken free unmet (requestsAt r (24 * i) (n - i)) ≡ takenRun m later (s .free) (s .unmet) (requestsAt r (24 * (i + 1)) (n - (i + 1)))
     unfolding takenRun
@@ -248,6 +249,7 @@ none-left : (i : ℕ) (t : Table) → record { outcome = Done; place = 0 } ≡ r
 unfolding roomTests replyOf
 none-left i t = refl
 
+-- no request is left
 none-more : (m taken : List ℕ) (t : Table) (i : ℕ) → map holdingOf (t .stations) ≡ linesAt m taken 0 (64 + 48 * two m 4) (two m 6)
     → map holdingOf (roomTests t i [] .after .stations) ≡ linesAt m taken 0 (64 + 48 * two m 4) (two m 6)
 unfolding roomTests
@@ -308,6 +310,7 @@ turn-taken m taken free unmet′ t q qs goal (Here j first h) a e r again =
 turn-taken m taken free unmet′ t q qs goal NotPlanned a e r again =
     not-both (ap isDone (same-fault m taken free unmet′ t (q .ca) NotPlanned a e ∙ r))
 
+-- What was taken in after the turns is what the stations of the table hold more.
 run-taken : (m : List ℕ) (qs : List Request) (taken : List ℕ) (free unmet′ i : ℕ) (t : Table) → Along m taken free unmet′ t → roomTests t i qs .outcome ≡ Done
     → map holdingOf (roomTests t i qs .after .stations) ≡ linesAt m (takenRun m taken free unmet′ qs) 0 (64 + 48 * two m 4) (two m 6)
 unfolding takenRun

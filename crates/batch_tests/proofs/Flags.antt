@@ -2,16 +2,17 @@
 use mathlib.Core.Path.{_≡_, refl, sym, ap, ap₂, _∙_, subst}
 use mathlib.Core.List.{List}
 use mathlib.Core.Bool.{Bool, true, false}
-use Prim.Native.Nat.{ℕ, zero, suc, _+_, _*_, _<_}
+use Prim.Native.Nat.{ℕ, zero, suc, _+_, _*_, _≤_, _<_}
 use native.Mathlib.Omega.{arith}
 use lib.ListN.{length, getD, set}
 use lib.Seq.{getD-set-same, getD-set-other}
 use lib.Dec.{eqb}
 use borrow.Author.Tests.{eqb-true, eqb-false}
-use Rattle.limits.specs.Test.{pick}
+use Rattle.limits.specs.Test.{_&_, pick}
 use Rattle.limits.proofs.Tests.{both}
 use Rattle.octets.specs.Number.{two, four}
 use Rattle.records.specs.Records.{addressAt, standsBefore}
+use Rattle.merging.specs.Merge.{Differ}
 use Rattle.batch_tests.specs.Tests.{flagOf, flagAt}
 
 -- each of the first n records has its flag set
@@ -60,3 +61,26 @@ pub flag-says : (flags r : List ℕ) (k n : ℕ) → k ≡ flagAt r (24 * n) →
     → getD flags k 0 ≡ 0 → standsBefore r (two r (24 * n)) (four r (24 * n + 2)) n ≡ false
 unfolding flagAt
 flag-says flags r k n e w z = unmarked flags r _ _ n w (ap (λ (y : ℕ). getD flags y 0) (sym e) ∙ z)
+
+-- ---- records that differ
+
+-- none of the first k records has the address of record i
+none-same : (r : List ℕ) (n i k : ℕ) → Differ r n → i < n → k ≤ i → standsBefore r (two r (24 * i)) (four r (24 * i + 2)) k ≡ false
+unfolding standsBefore addressAt
+none-same r n i zero d h l = refl
+none-same r n i (suc k) d h l = by-test (eqb (two r (24 * k)) (two r (24 * i)) & eqb (four r (24 * k + 2)) (four r (24 * i + 2))) refl (none-same r n i k d h (omega arith))
+  where
+    by-test : (b : Bool) → (eqb (two r (24 * k)) (two r (24 * i)) & eqb (four r (24 * k + 2)) (four r (24 * i + 2))) ≡ b
+        → standsBefore r (two r (24 * i)) (four r (24 * i + 2)) k ≡ false → pick b true (standsBefore r (two r (24 * i)) (four r (24 * i + 2)) k) ≡ false
+    by-test true e s =
+        let b = both _ _ e in
+        let x = eqb-true _ _ (b .0) in
+        let y = eqb-true _ _ (b .1) in
+        absurd (d i k (omega arith) h (λ j. 16777216 * x j + y j))
+    by-test false e s = s
+
+-- What the flag to go by says of the records before the next one.
+pub asked-says : (flags r : List ℕ) (apart : Bool) (f k n i : ℕ) → f ≡ pick apart 0 (getD flags k 0) → k ≡ flagAt r (24 * i) → Marked flags r i → (apart ≡ true → Differ r n) → i < n
+    → f ≡ 0 → standsBefore r (two r (24 * i)) (four r (24 * i + 2)) i ≡ false
+asked-says flags r true f k n i is-f e w d h z = none-same r n i i (d refl) h (omega arith)
+asked-says flags r false f k n i is-f e w d h z = flag-says flags r k i e w (sym is-f ∙ z)

@@ -6,8 +6,10 @@ use seats::Spot;
 ghost use mathlib.Core.Path.{_≡_};
 ghost use mathlib.Core.Bool.{true, false};
 ghost use mathlib.Core.List.{[]};
-ghost use Prim.Native.Nat.{_+_, _*_, _≤_, _<_};
+ghost use Prim.Native.Nat.{_+_, _*_, _/_, _≤_, _<_};
 ghost use lib.ListN.{length};
+ghost use Rattle.limits.specs.Test.{pick};
+ghost use Rattle.merging.specs.Merge.{Differ};
 ghost use Rattle.octets.specs.Number.{two, four};
 ghost use Rattle.model.specs.Request.{requestAt};
 ghost use Rattle.table.specs.Memory.{wellFormed, tableOf};
@@ -49,6 +51,16 @@ fn flag_at(records: &[u8], at: usize) -> usize
     flag_of(ca, ioa)
 }
 
+// The flag to go by: none is needed where no two records of the batch have one address.
+fn flag_asked(apart: bool, flag: u8) -> u8
+    ensures { λ r. ⌜ r ≡ pick apart 0 flag ⌝ }
+{
+    if apart {
+        return 0;
+    }
+    flag
+}
+
 // Does the address stand in one of the first n records? Only where its flag is set are they looked at.
 fn stands_flagged(records: &[u8], ca: usize, ioa: usize, n: usize, flag: u8) -> bool
     requires { ⌜ (24 * n ≤ length (now records)) × (flag ≡ 0 → standsBefore (now records) ca ioa n ≡ false) ⌝ }
@@ -87,15 +99,15 @@ fn fault_at(m: &[u8], records: &[u8], i: usize, flag: u8) -> Outcome
 }
 
 // The tests of one record after another; the flags of those that passed are set.
-fn tests_of(m: &[u8], records: &[u8], flags: &mut [u8; FLAGS]) -> Reply
-    requires { ⌜ (wellFormed (now m) ≡ true) × (length (now flags) ≡ 16384) ⌝ }
+fn tests_of(m: &[u8], records: &[u8], flags: &mut [u8; FLAGS], apart: bool) -> Reply
+    requires { ⌜ (wellFormed (now m) ≡ true) × (length (now flags) ≡ 16384) × (apart ≡ true → Differ (now records) (length (now records) / 24)) ⌝ }
     ensures { λ r. ⌜ r ≡ ownTests (tableOf (now (m .entry))) [] 0 (requestsIn (now (records .entry))) ⌝ }
 {
     let n = records.len() / 24;
     let mut i: usize = 0;
     while i < n {
         let k = flag_at(records, 24 * i);
-        let outcome = fault_at(m, records, i, flags[k]);
+        let outcome = fault_at(m, records, i, flag_asked(apart, flags[k]));
         if !outcome.is_done() {
             return Reply {
                 outcome: outcome,
@@ -111,11 +123,11 @@ fn tests_of(m: &[u8], records: &[u8], flags: &mut [u8; FLAGS]) -> Reply
     }
 }
 
-// Every record passes its own tests, or the first that does not is named.
-pub fn own_tests(m: &[u8], records: &[u8]) -> Reply
-    requires { ⌜ wellFormed (now m) ≡ true ⌝ }
+// Every record passes its own tests, or the first that does not is named. `apart` says that no two have one address, where that is known.
+pub fn own_tests(m: &[u8], records: &[u8], apart: bool) -> Reply
+    requires { ⌜ (wellFormed (now m) ≡ true) × (apart ≡ true → Differ (now records) (length (now records) / 24)) ⌝ }
     ensures { λ r. ⌜ r ≡ ownTests (tableOf (now (m .entry))) [] 0 (requestsIn (now (records .entry))) ⌝ }
 {
     let mut flags = [0u8; FLAGS];
-    tests_of(m, records, &mut flags)
+    tests_of(m, records, &mut flags, apart)
 }

@@ -1,3 +1,4 @@
 pub mod Joined
 pub mod Turns
 pub mod Numbers
+pub mod Differ

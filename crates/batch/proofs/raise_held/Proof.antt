@@ -1,8 +1,9 @@
+-- The loop over the stations, as the recursion of `raised` goes. Assumes nothing.
 use borrow.Author.Needs.{needs}
 use native.Mathlib.Omega.{arith}
 use mathlib.Core.Path.{_≡_, refl, sym, ap, _∙_, subst}
 use mathlib.Core.List.{List}
-use Prim.Native.Nat.{ℕ, _+_, _*_, _-_, _≤_, _<_}
+use Prim.Native.Nat.{ℕ, _+_, _*_, _-_, _≤_}
 use denote.Ref.{now}
 use lib.ListN.{length, getD}
 use Rattle.octets.specs.Over.{over}
@@ -20,42 +21,33 @@ abbrev μ-loop : tie.MeasureT-loop
 μ-loop m₀ taken at n i₀ m i =
     n - i
 
--- src/lib.rt:65:5
 loop-holds : tie.Need-loop-holds Inv-loop μ-loop
 loop-holds c =
     let s = raise-start _ _ _ _ (c .before .pre .2) in
     (s .0, s .1, refl, omega arith)
 
--- src/lib.rt:66:23
 mul-to : tie.Need-mul-to Inv-loop μ-loop
 mul-to c = search needs
 
--- src/lib.rt:66:18
 add-to : tie.Need-add-to Inv-loop μ-loop
 add-to c = search needs
 
--- src/lib.rt:66:18
 add-to-2 : tie.Need-add-to-2 Inv-loop μ-loop
 add-to-2 c = search needs
 
--- src/lib.rt:67:13
 two-at-requires : tie.Need-two-at-requires Inv-loop μ-loop
 two-at-requires c κs =
     omega arith
 
--- src/lib.rt:68:46
 mul-wide16 : tie.Need-mul-wide16 Inv-loop μ-loop
 mul-wide16 c = search needs
 
--- src/lib.rt:68:46
 element-copy-out-wide16 : tie.Need-element-copy-out-wide16 Inv-loop μ-loop
 element-copy-out-wide16 c = search needs
 
--- src/lib.rt:68:39
 wide16-requires : tie.Need-wide16-requires Inv-loop μ-loop
 wide16-requires c κs = search needs
 
--- src/lib.rt:68:32
 add-put-two : tie.Need-add-put-two Inv-loop μ-loop
 add-put-two c =
     let a = c .before .before .before .before .before .before .before .before .args in
@@ -65,7 +57,6 @@ add-put-two c =
     let y : c .wide16 .result ≡ getD (now (a .taken)) (l .i) 0 = c .wide16 .ensures .0 in
     omega arith
 
--- src/lib.rt:68:9
 put-two-requires : tie.Need-put-two-requires Inv-loop μ-loop
 put-two-requires c κs =
     let a = c .before .before .before .before .before .before .before .before .args in
@@ -75,15 +66,12 @@ put-two-requires c κs =
     let y : c .wide16 .result ≡ getD (now (a .taken)) (l .i) 0 = c .wide16 .ensures .0 in
     (omega arith, omega arith)
 
--- src/lib.rt:69:9
 add-i : tie.Need-add-i Inv-loop μ-loop
 add-i c = search needs
 
--- src/lib.rt:65:5
 loop-less : tie.Need-loop-less Inv-loop μ-loop
 loop-less c = search needs
 
--- src/lib.rt:65:5
 loop-again : tie.Need-loop-again Inv-loop μ-loop
 loop-again c =
     let a = c .before .before .before .before .before .before .before .before .before .before .before .args in
@@ -102,11 +90,9 @@ loop-again c =
       omega arith,
     )
 
--- src/lib.rt:60:1
 same-length : tie.Need-same-length Inv-loop μ-loop
 same-length c = search needs
 
--- src/lib.rt:60:1
 returns : tie.Need-returns Inv-loop μ-loop
 returns c =
     let l = c .before .loop in

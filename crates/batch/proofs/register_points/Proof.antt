@@ -1,5 +1,6 @@
 -- The entry's four ways out are the four cases of the effect of a batch. Assumes nothing.
 use borrow.Author.Needs.{needs}
+use native.Mathlib.Omega.{arith}
 use borrow.Author.Tests.{not-true, not-false}
 use mathlib.Core.Path.{_≡_, refl, sym, ap, _∙_}
 use mathlib.Core.List.{[]}
@@ -25,8 +26,14 @@ same-length c = search needs
 returns : tie.Need-returns
 returns c = no-table _ _ (sym (c .before .well-formed .ensures) ∙ not-true _ (c .if1 .taken))
 
+slice-aggregate-order : tie.Need-slice-aggregate-order
+slice-aggregate-order c = search needs
+
+order-requires : tie.Need-order-requires
+order-requires c κs = omega arith
+
 own-tests-requires : tie.Need-own-tests-requires
-own-tests-requires c κs = sym (c .before .before .well-formed .ensures) ∙ not-false _ (c .before .if1 .left)
+own-tests-requires c κs = (sym (c .before .before .before .before .before .well-formed .ensures) ∙ not-false _ (c .before .before .before .before .if1 .left), c .before .before .order .ensures .1)
 
 is-done-requires : tie.Need-is-done-requires
 is-done-requires c κs = search needs
@@ -36,19 +43,19 @@ same-length-2 c = search needs
 
 returns-2 : tie.Need-returns-2
 returns-2 c =
-    let a = c .before .before .before .before .before .before .before .before .before .args in
+    let a = c .before .before .before .before .before .before .before .before .before .before .before .before .args in
     let m = now (a .table) in
     let qs = requestsIn (now (a .records)) in
-    let w : wellFormed m ≡ true = sym (c .before .before .before .before .before .well-formed .ensures) ∙ not-false _ (c .before .before .before .before .if1 .left) in
+    let w : wellFormed m ≡ true = sym (c .before .before .before .before .before .before .before .before .well-formed .ensures) ∙ not-false _ (c .before .before .before .before .before .before .before .if1 .left) in
     let p : isDone (c .before .before .own-tests .result .outcome) ≡ false = sym (c .before .is-done .ensures) ∙ not-true _ (c .if2 .taken) in
     own-refusal m w qs (c .before .before .own-tests .result) (c .before .before .own-tests .ensures) p
 
 room-tests-requires : tie.Need-room-tests-requires
 room-tests-requires c κs =
-    let a = c .before .before .before .before .before .before .before .before .before .before .before .args in
+    let a = c .before .before .before .before .before .before .before .before .before .before .before .before .before .before .args in
     let m = now (a .table) in
     let qs = requestsIn (now (a .records)) in
-    let w : wellFormed m ≡ true = sym (c .before .before .before .before .before .before .before .well-formed .ensures) ∙ not-false _ (c .before .before .before .before .before .before .if1 .left) in
+    let w : wellFormed m ≡ true = sym (c .before .before .before .before .before .before .before .before .before .before .well-formed .ensures) ∙ not-false _ (c .before .before .before .before .before .before .before .before .before .if1 .left) in
     let t = passed m w .top in
     (t .s-high, t .room, refl)
 
@@ -60,39 +67,42 @@ same-length-3 c = search needs
 
 returns-3 : tie.Need-returns-3
 returns-3 c =
-    let a = c .before .before .before .before .before .before .before .before .before .before .before .before .before .before .args in
+    let a = c .before .before .before .before .before .before .before .before .before .before .before .before .before .before .before .before .before .args in
     let m = now (a .table) in
     let qs = requestsIn (now (a .records)) in
-    let w : wellFormed m ≡ true = sym (c .before .before .before .before .before .before .before .before .before .before .well-formed .ensures) ∙ not-false _ (c .before .before .before .before .before .before .before .before .before .if1 .left) in
+    let w : wellFormed m ≡ true = sym (c .before .before .before .before .before .before .before .before .before .before .before .before .before .well-formed .ensures) ∙ not-false _ (c .before .before .before .before .before .before .before .before .before .before .before .before .if1 .left) in
     let p : isDone (c .before .before .before .before .before .before .before .own-tests .result .outcome) ≡ true = sym (c .before .before .before .before .before .before .is-done .ensures) ∙ not-false _ (c .before .before .before .before .before .if2 .left) in
     let d : isDone (ownTests (tableOf m) [] 0 qs .outcome) ≡ true = ap (λ (y : Reply). isDone (y .outcome)) (sym (c .before .before .before .before .before .before .before .own-tests .ensures)) ∙ p in
     let x : isDone (c .before .before .room-tests .result .outcome) ≡ false = sym (c .before .is-done2 .ensures) ∙ not-true _ (c .if3 .taken) in
     room-refusal m w qs d (c .before .before .room-tests .result) (c .before .before .room-tests .ensures .0) x
 
+slice-aggregate-store-all : tie.Need-slice-aggregate-store-all
+slice-aggregate-store-all c = search needs
+
 store-all-requires : tie.Need-store-all-requires
 store-all-requires c κs =
-    let a = c .before .before .before .before .before .before .before .before .before .before .before .before .before .before .before .before .args in
+    let a = c .before .before .before .before .before .before .before .before .before .before .before .before .before .before .before .before .before .before .before .before .args in
     let m = now (a .table) in
     let qs = requestsIn (now (a .records)) in
-    let w : wellFormed m ≡ true = sym (c .before .before .before .before .before .before .before .before .before .before .before .before .well-formed .ensures) ∙ not-false _ (c .before .before .before .before .before .before .before .before .before .before .before .if1 .left) in
-    let p : isDone (c .before .before .before .before .before .before .before .before .before .own-tests .result .outcome) ≡ true = sym (c .before .before .before .before .before .before .before .before .is-done .ensures) ∙ not-false _ (c .before .before .before .before .before .before .before .if2 .left) in
-    let d : isDone (ownTests (tableOf m) [] 0 qs .outcome) ≡ true = ap (λ (y : Reply). isDone (y .outcome)) (sym (c .before .before .before .before .before .before .before .before .before .own-tests .ensures)) ∙ p in
-    let x : isDone (c .before .before .before .before .room-tests .result .outcome) ≡ true = sym (c .before .before .before .is-done2 .ensures) ∙ not-false _ (c .before .before .if3 .left) in
-    (w, done-is _ d, has-room m w qs d (c .before .before .before .before .room-tests .result) (c .before .before .before .before .room-tests .ensures .0) x, c .before .before .before .before .room-tests .ensures .1)
+    let w : wellFormed m ≡ true = sym (c .before .before .before .before .before .before .before .before .before .before .before .before .before .before .before .before .well-formed .ensures) ∙ not-false _ (c .before .before .before .before .before .before .before .before .before .before .before .before .before .before .before .if1 .left) in
+    let p : isDone (c .before .before .before .before .before .before .before .before .before .before .own-tests .result .outcome) ≡ true = sym (c .before .before .before .before .before .before .before .before .before .is-done .ensures) ∙ not-false _ (c .before .before .before .before .before .before .before .before .if2 .left) in
+    let d : isDone (ownTests (tableOf m) [] 0 qs .outcome) ≡ true = ap (λ (y : Reply). isDone (y .outcome)) (sym (c .before .before .before .before .before .before .before .before .before .before .own-tests .ensures)) ∙ p in
+    let x : isDone (c .before .before .before .before .before .room-tests .result .outcome) ≡ true = sym (c .before .before .before .before .is-done2 .ensures) ∙ not-false _ (c .before .before .before .if3 .left) in
+    (w, done-is _ d, has-room m w qs d (c .before .before .before .before .before .room-tests .result) (c .before .before .before .before .before .room-tests .ensures .0) x, c .before .before .before .before .before .room-tests .ensures .1, omega (arith, c .before .before .before .before .before .before .before .before .before .before .before .before .before .order .kept), c .before .before .before .before .before .before .before .before .before .before .before .before .before .order .ensures .0)
 
 same-length-4 : tie.Need-same-length-4
 same-length-4 c = search needs
 
 returns-4 : tie.Need-returns-4
 returns-4 c =
-    let a = c .before .before .before .before .before .before .before .before .before .before .before .before .before .before .before .before .before .before .before .args in
+    let a = c .before .before .before .before .before .before .before .before .before .before .before .before .before .before .before .before .before .before .before .before .before .before .before .args in
     let m = now (a .table) in
     let qs = requestsIn (now (a .records)) in
-    let w : wellFormed m ≡ true = sym (c .before .before .before .before .before .before .before .before .before .before .before .before .before .before .before .well-formed .ensures) ∙ not-false _ (c .before .before .before .before .before .before .before .before .before .before .before .before .before .before .if1 .left) in
-    let p : isDone (c .before .before .before .before .before .before .before .before .before .before .before .before .own-tests .result .outcome) ≡ true = sym (c .before .before .before .before .before .before .before .before .before .before .before .is-done .ensures) ∙ not-false _ (c .before .before .before .before .before .before .before .before .before .before .if2 .left) in
-    let d : isDone (ownTests (tableOf m) [] 0 qs .outcome) ≡ true = ap (λ (y : Reply). isDone (y .outcome)) (sym (c .before .before .before .before .before .before .before .before .before .before .before .before .own-tests .ensures)) ∙ p in
-    let x : isDone (c .before .before .before .before .before .before .before .room-tests .result .outcome) ≡ true = sym (c .before .before .before .before .before .before .is-done2 .ensures) ∙ not-false _ (c .before .before .before .before .before .if3 .left) in
-    stored-all m w qs d (c .before .before .before .before .before .before .before .room-tests .result) (c .before .before .before .before .before .before .before .room-tests .ensures .0) x _ (c .before .before .store-all .ensures)
+    let w : wellFormed m ≡ true = sym (c .before .before .before .before .before .before .before .before .before .before .before .before .before .before .before .before .before .before .before .well-formed .ensures) ∙ not-false _ (c .before .before .before .before .before .before .before .before .before .before .before .before .before .before .before .before .before .before .if1 .left) in
+    let p : isDone (c .before .before .before .before .before .before .before .before .before .before .before .before .before .own-tests .result .outcome) ≡ true = sym (c .before .before .before .before .before .before .before .before .before .before .before .before .is-done .ensures) ∙ not-false _ (c .before .before .before .before .before .before .before .before .before .before .before .if2 .left) in
+    let d : isDone (ownTests (tableOf m) [] 0 qs .outcome) ≡ true = ap (λ (y : Reply). isDone (y .outcome)) (sym (c .before .before .before .before .before .before .before .before .before .before .before .before .before .own-tests .ensures)) ∙ p in
+    let x : isDone (c .before .before .before .before .before .before .before .before .room-tests .result .outcome) ≡ true = sym (c .before .before .before .before .before .before .before .is-done2 .ensures) ∙ not-false _ (c .before .before .before .before .before .before .if3 .left) in
+    stored-all m w qs d (c .before .before .before .before .before .before .before .before .room-tests .result) (c .before .before .before .before .before .before .before .before .room-tests .ensures .0) x _ (c .before .before .store-all .ensures)
 
 pub register-points-spec : {M : Type 1} → statement M
 register-points-spec =
@@ -101,6 +111,8 @@ register-points-spec =
     well-formed-requires
     same-length
     returns
+    slice-aggregate-order
+    order-requires
     own-tests-requires
     is-done-requires
     same-length-2
@@ -109,6 +121,7 @@ register-points-spec =
     is-done-requires-2
     same-length-3
     returns-3
+    slice-aggregate-store-all
     store-all-requires
     same-length-4
     returns-4)

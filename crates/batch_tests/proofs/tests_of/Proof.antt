@@ -6,6 +6,7 @@ use borrow.Author.Tests.{not-true, not-false}
 use mathlib.Core.Path.{_≡_, sym, ap, _∙_}
 use mathlib.Core.List.{[]}
 use Prim.Native.Nat.{_*_, _-_, _≤_, _<_}
+use denote.Ref.{now}
 use lib.ListN.{length, length-set}
 use Rattle.limits.specs.Outcome.{isDone}
 use Rattle.limits.specs.declared.outcome.Outcome.{Outcome}
@@ -13,19 +14,19 @@ use Rattle.model.specs.Request.{requestsAt}
 use Rattle.table.specs.Memory.{tableOf}
 use Rattle.registry.specs.Registry.{ownTests}
 use Rattle.records.specs.Records.{requestsIn, earlierAt}
-use Rattle.batch_tests.proofs.Flags.{Marked, marked-on, flag-says}
+use Rattle.batch_tests.proofs.Flags.{Marked, marked-on, asked-says}
 use Rattle.batch_tests.proofs.Flags.Marked.{none-marked}
 use Rattle.batch_tests.proofs.Laws.{own-on, own-stop, own-end, own-start}
 use Rattle.batch_tests.proofs.tests_of.Statement.{statement}
 use Rattle.batch_tests.proofs.tests_of.Tie as tie
 
 abbrev Inv-loop : tie.InvT-loop
-Inv-loop m records flags₀ n i₀ flags i =
+Inv-loop m records flags₀ apart n i₀ flags i =
     (ownTests (tableOf m) [] 0 (requestsIn records) ≡ ownTests (tableOf m) (earlierAt records i) i (requestsAt records (24 * i) (n - i)))
     × Marked flags records i × (length flags ≡ 16384) × (i ≤ n) × (24 * n ≤ length records)
 
 abbrev μ-loop : tie.MeasureT-loop
-μ-loop m records flags₀ n i₀ flags i = n - i
+μ-loop m records flags₀ apart n i₀ flags i = n - i
 
 loop-holds : tie.Need-loop-holds Inv-loop μ-loop
 loop-holds c = (own-start _ _, none-marked, c .before .before .pre .1, omega arith, omega arith)
@@ -36,26 +37,31 @@ mul-flag-at c = search needs
 flag-at-requires : tie.Need-flag-at-requires Inv-loop μ-loop
 flag-at-requires c κs = omega arith
 
-element-copy-out-fault-at : tie.Need-element-copy-out-fault-at Inv-loop μ-loop
-element-copy-out-fault-at c = let k = c .flag-at .ensures .1 in omega arith
+element-copy-out-flag-asked : tie.Need-element-copy-out-flag-asked Inv-loop μ-loop
+element-copy-out-flag-asked c = let k = c .flag-at .ensures .1 in omega arith
+
+flag-asked-requires : tie.Need-flag-asked-requires Inv-loop μ-loop
+flag-asked-requires c κs = search needs
 
 fault-at-requires : tie.Need-fault-at-requires Inv-loop μ-loop
 fault-at-requires c κs =
-    let l = c .before .before .before .loop in
-    (c .before .before .before .before .before .before .pre .0, omega arith, flag-says _ _ _ _ (c .before .flag-at .ensures .0) (l .inv .1))
+    let a = c .before .before .before .before .before .before .before .args in
+    let p = c .before .before .before .before .before .before .before .pre in
+    let l = c .before .before .before .before .loop in
+    (p .0, omega arith, asked-says (l .flags) (now (a .records)) (a .apart) _ _ _ (l .i) (c .flag-asked .ensures) (c .before .before .flag-at .ensures .0) (l .inv .1) (p .2) (omega arith))
 
 is-done-requires : tie.Need-is-done-requires Inv-loop μ-loop
 is-done-requires c κs = search needs
 
 returns : tie.Need-returns Inv-loop μ-loop
 returns c =
-    let l = c .before .before .before .before .before .before .loop in
+    let l = c .before .before .before .before .before .before .before .loop in
     let f = c .before .before .fault-at .ensures in
     let d = sym (c .before .is-done .ensures ∙ ap isDone f) ∙ not-true _ (c .if1 .taken) in
     sym (l .inv .0 ∙ own-stop _ _ _ _ (omega arith) d ∙ ap (λ (o : Outcome). record { outcome = o; place = l .i }) (sym f))
 
 element-write-flags : tie.Need-element-write-flags Inv-loop μ-loop
-element-write-flags c = let k = c .before .before .before .before .flag-at .ensures .1 in omega arith
+element-write-flags c = let k = c .before .before .before .before .before .flag-at .ensures .1 in omega arith
 
 add-i : tie.Need-add-i Inv-loop μ-loop
 add-i c = search needs
@@ -65,9 +71,9 @@ loop-less c = search needs
 
 loop-again : tie.Need-loop-again Inv-loop μ-loop
 loop-again c =
-    let l = c .before .before .before .before .before .before .loop in
+    let l = c .before .before .before .before .before .before .before .loop in
     let f = c .before .before .fault-at .ensures in
-    let k = c .before .before .before .before .flag-at in
+    let k = c .before .before .before .before .before .flag-at in
     let d = sym (c .before .is-done .ensures ∙ ap isDone f) ∙ not-false _ (c .if1 .left) in
     let h : length (l .flags) ≡ 16384 = l .inv .2 in
     let below : k .result < 16384 = k .ensures .1 in
@@ -85,7 +91,8 @@ tests-of-spec =
     loop-holds
     mul-flag-at
     flag-at-requires
-    element-copy-out-fault-at
+    element-copy-out-flag-asked
+    flag-asked-requires
     fault-at-requires
     is-done-requires
     returns
