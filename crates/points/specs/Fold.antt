@@ -37,3 +37,7 @@ stepped m s p =
 unfoldable pub folded : List ℕ → Taken → List Request → Both
 folded m s [] = record { memory = m; state = s }
 folded m s (p ∷ ps) = pick (s .done) (record { memory = m; state = s }) (folded (stepped m s p .memory) (stepped m s p .state) ps)
+
+-- nothing taken out yet
+abbrev pub noneTaken : Taken
+noneTaken = record { count = 0; done = false }

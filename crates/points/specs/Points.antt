@@ -2,7 +2,7 @@
 -- DESIGN.md, section 5. `record-law` ties it to `requestAt`.
 use Prim.Native.Nat.{ℕ, _/_, _%_}
 use mathlib.Core.List.{List, [], _∷_, _++_, map}
-use lib.ListN.{getD}
+use lib.ListN.{take}
 use Rattle.octets.specs.Number.{twelve}
 use Rattle.model.specs.declared.Group.{Group}
 use Rattle.model.specs.declared.Group.the-variants.{None, Number}
@@ -32,3 +32,7 @@ recordsOf (q ∷ qs) = recordOf q ++ recordsOf qs
 -- A point record with the twelve octets of value that its type has.
 abbrev pub whole : Request → Request
 whole q = record { ca = q .ca; ioa = q .ioa; kind = q .kind; group = q .group; counter = q .counter; value = twelve (q .value) 0 }
+
+-- The batch of a slice of point records, of which as many are taken out as the memory lent for them has room for.
+abbrev pub batchOf : ℕ → List Request → List Request
+batchOf room points = map whole (take (room / 24) points)

@@ -3,13 +3,13 @@ use model::Group;
 use model::Request;
 use registry::Reply;
 ghost use mathlib.Core.Path.{_≡_};
-ghost use Prim.Native.Nat.{_*_, _≤_};
+ghost use Prim.Native.Nat.{_*_, _/_, _≤_};
 ghost use lib.ListN.{length, take};
 ghost use Rattle.records.specs.Records.{requestsIn};
 ghost use Rattle.registry.specs.Effect.{replyOn, memoryOn};
 ghost use Rattle.registry.specs.Registry.{registeringAll};
 ghost use Rattle.points.specs.Points.{hasOf, numberIn, recordOf};
-ghost use Rattle.points.specs.Fold.{stepped, folded};
+ghost use Rattle.points.specs.Fold.{stepped, folded, noneTaken};
 
 // How many records have been taken out, and whether there is no room for more.
 pub struct Taken {
@@ -103,4 +103,23 @@ pub fn take_out(m: &mut [u8], points: &[Request], s: Taken) -> Taken
         i += 1;
     }
     t
+}
+
+// Nothing taken out yet.
+fn none_taken() -> Taken
+    ensures { λ r. ⌜ r ≡ noneTaken ⌝ }
+{
+    Taken {
+        count: 0,
+        done: false,
+    }
+}
+
+// Registers the records that were laid down.
+fn register_taken(table: &mut [u8], records: &mut [u8], taken: Taken) -> Reply
+    requires { ⌜ taken .count ≤ length (now records) / 24 ⌝ }
+    ensures { λ r. ⌜ (r ≡ replyOn (registeringAll (requestsIn (take (24 * taken .count) (now (records .entry))))) (now (table .entry))) × (now (table .exit) ≡ memoryOn (registeringAll (requestsIn (take (24 * taken .count) (now (records .entry))))) (now (table .entry))) × (now (records .exit) ≡ now (records .entry)) ⌝ }
+{
+    let end = 24 * taken.count;
+    batch::register_points(table, &records[..end])
 }
