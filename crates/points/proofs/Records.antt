@@ -19,6 +19,9 @@ use Rattle.model.specs.Request.{givenGroup, requestAt, requestsAt}
 use Rattle.table.proofs.Points.{gets, gets-drop}
 use Rattle.registry.specs.History.{Twelve, AllTwelve}
 use Rattle.records.specs.Records.{requestsIn}
+use Rattle.registry.specs.declared.Reply.{Reply}
+use Rattle.registry.specs.Effect.{replyOn, memoryOn}
+use Rattle.registry.specs.Registry.{registeringAll}
 use Rattle.points.specs.Points.{hasOf, numberIn, recordOf, recordsOf, whole, batchOf}
 use Rattle.points.specs.Fold.{Both, stepped, folded, noneTaken}
 use Rattle.points.specs.declared.Taken.{Taken}
@@ -181,3 +184,44 @@ all-whole (q ∷ qs) w = ap (λ (z : Request). z ∷ map whole qs) (whole-is q (
 
 pub batch-is : (room : ℕ) (qs : List Request) → AllTwelve qs → length qs ≤ room / 24 → batchOf room qs ≡ qs
 batch-is room qs w h = ap (map whole) (take-all (room / 24) qs h) ∙ all-whole qs w
+
+-- ---- what the entry comes to
+
+-- what taking out gives back and leaves, and what registering the records does
+abbrev pub Took : List ℕ → List Request → Taken → Taken → List ℕ → Type 0
+Took ms ps s r zs = (r ≡ folded ms s ps .state) × (zs ≡ folded ms s ps .memory)
+
+abbrev pub Registered : List ℕ → List ℕ → Taken → Reply → List ℕ → List ℕ → Type 0
+Registered ts zs r p ts′ ms′ =
+    (p ≡ replyOn (registeringAll (requestsIn (take (24 * r .count) zs))) ts) × (ts′ ≡ memoryOn (registeringAll (requestsIn (take (24 * r .count) zs))) ts) × (ms′ ≡ zs)
+
+abbrev pub Answers : List ℕ → List Request → List ℕ → Reply → List ℕ → List ℕ → Type 0
+Answers ts ps ms p ts′ ms′ =
+    (p ≡ replyOn (registeringAll (batchOf (length ms) ps)) ts) × (ts′ ≡ memoryOn (registeringAll (batchOf (length ms) ps)) ts) × (ms′ ≡ folded ms noneTaken ps .memory)
+
+module _ (ms : List ℕ) (ps : List Request) (s r : Taken) (zs : List ℕ) (e : s ≡ noneTaken) (took : Took ms ps s r zs) where
+  state-is : r ≡ folded ms noneTaken ps .state
+  state-is = took .0 ∙ ap (λ (z : Taken). folded ms z ps .state) e
+
+  memory-is : zs ≡ folded ms noneTaken ps .memory
+  memory-is = took .1 ∙ ap (λ (z : Taken). folded ms z ps .memory) e
+
+  -- no more are taken out than the memory has room for
+  pub taken-within : r .count ≤ length zs / 24
+  taken-within =
+      let t = taken-law ms ps in
+      let n : length zs ≡ length ms = ap length memory-is ∙ t .2 in
+      let c : r .count ≡ folded ms noneTaken ps .state .count = ap (λ (z : Taken). z .count) state-is in
+      rw (n, c) (t .0)
+
+  batch-taken : requestsIn (take (24 * r .count) zs) ≡ batchOf (length ms) ps
+  batch-taken =
+      ap (λ (z : Taken). requestsIn (take (24 * z .count) zs)) state-is
+      ∙ ap (λ (l : List ℕ). requestsIn (take (24 * folded ms noneTaken ps .state .count) l)) memory-is ∙ taken-law ms ps .1
+
+  -- the batch of what was taken out is registered
+  pub answers : (ts : List ℕ) (p : Reply) (ts′ ms′ : List ℕ) → Registered ts zs r p ts′ ms′ → Answers ts ps ms p ts′ ms′
+  answers ts p ts′ ms′ done =
+      (done .0 ∙ ap (λ (qs : List Request). replyOn (registeringAll qs) ts) batch-taken,
+      done .1 ∙ ap (λ (qs : List Request). memoryOn (registeringAll qs) ts) batch-taken,
+      done .2 ∙ memory-is)

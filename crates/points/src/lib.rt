@@ -8,7 +8,7 @@ ghost use lib.ListN.{length, take};
 ghost use Rattle.records.specs.Records.{requestsIn};
 ghost use Rattle.registry.specs.Effect.{replyOn, memoryOn};
 ghost use Rattle.registry.specs.Registry.{registeringAll};
-ghost use Rattle.points.specs.Points.{hasOf, numberIn, recordOf};
+ghost use Rattle.points.specs.Points.{hasOf, numberIn, recordOf, batchOf};
 ghost use Rattle.points.specs.Fold.{stepped, folded, noneTaken};
 
 // How many records have been taken out, and whether there is no room for more.
@@ -122,4 +122,23 @@ fn register_taken(table: &mut [u8], records: &mut [u8], taken: Taken) -> Reply
 {
     let end = 24 * taken.count;
     batch::register_points(table, &records[..end])
+}
+
+// Registers a batch of point records, taken out into the memory lent for them: 3, then 11 to 17 of each in list order, then 19 and 20; all or none.
+pub fn register_points_in(table: &mut [u8], points: &[Request], records: &mut [u8]) -> Reply
+    ensures { λ r. ⌜ (r ≡ replyOn (registeringAll (batchOf (length (now (records .entry))) (now (points .entry)))) (now (table .entry))) × (now (table .exit) ≡ memoryOn (registeringAll (batchOf (length (now (records .entry))) (now (points .entry)))) (now (table .entry))) × (now (records .exit) ≡ folded (now (records .entry)) noneTaken (now (points .entry)) .memory) ⌝ }
+{
+    let taken = take_out(&mut *records, points, none_taken());
+    register_taken(table, records, taken)
+}
+
+// How many octets the records of the longest batch that can be registered take, and of one more: 24 × 4,097.
+const ROOM: usize = 98328;
+
+// Registers a batch of point records: the first 4,097 decide, of which at most 4,096 can be admitted.
+pub fn register_points(table: &mut [u8], points: &[Request]) -> Reply
+    ensures { λ r. ⌜ (r ≡ replyOn (registeringAll (batchOf 98328 (now (points .entry)))) (now (table .entry))) × (now (table .exit) ≡ memoryOn (registeringAll (batchOf 98328 (now (points .entry)))) (now (table .entry))) ⌝ }
+{
+    let mut records = [0u8; ROOM];
+    register_points_in(table, points, &mut records)
 }
