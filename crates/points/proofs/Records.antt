@@ -65,7 +65,7 @@ from-there pre (q ∷ qs) =
     let here : requestAt m (length pre) ≡ whole q = request-drop m (length pre) ∙ ap (λ (l : List ℕ). requestAt l 0) (drop-append-seam pre (recordOf q ++ recordsOf qs)) ∙ record-law q (recordsOf qs) in
     let e : length (pre ++ recordOf q) ≡ length pre + 24 = length-append pre (recordOf q) ∙ ap (λ (n : ℕ). length pre + n) (length-record q) in
     let next : requestsAt m (length pre + 24) (length qs) ≡ map whole qs =
-            ap (λ (n : ℕ). requestsAt m n (length qs)) (sym e) ∙ ap (λ (l : List ℕ). requestsAt l (length (pre ++ recordOf q)) (length qs)) (sym (append-assoc pre (recordOf q) (recordsOf qs))) ∙ from-there (pre ++ recordOf q) qs in
+    ap (λ (n : ℕ). requestsAt m n (length qs)) (sym e) ∙ ap (λ (l : List ℕ). requestsAt l (length (pre ++ recordOf q)) (length qs)) (sym (append-assoc pre (recordOf q) (recordsOf qs))) ∙ from-there (pre ++ recordOf q) qs in
     ap (λ (z : Request). z ∷ requestsAt m (length pre + 24) (length qs)) here ∙ ap (λ (l : List Request). whole q ∷ l) next
 
 -- The requests of the records of a list of points are the points.
@@ -221,7 +221,8 @@ module _ (ms : List ℕ) (ps : List Request) (s r : Taken) (zs : List ℕ) (e : 
 
   -- the batch of what was taken out is registered
   pub answers : (ts : List ℕ) (p : Reply) (ts′ ms′ : List ℕ) → Registered ts zs r p ts′ ms′ → Answers ts ps ms p ts′ ms′
-  answers ts p ts′ ms′ done =
-      (done .0 ∙ ap (λ (qs : List Request). replyOn (registeringAll qs) ts) batch-taken,
-      done .1 ∙ ap (λ (qs : List Request). memoryOn (registeringAll qs) ts) batch-taken,
-      done .2 ∙ memory-is)
+  answers ts p ts′ ms′ done = (
+    done .0 ∙ ap (λ (qs : List Request). replyOn (registeringAll qs) ts) batch-taken,
+    done .1 ∙ ap (λ (qs : List Request). memoryOn (registeringAll qs) ts) batch-taken,
+    done .2 ∙ memory-is,
+  )
