@@ -1,0 +1,144 @@
+// A batch as a slice of point records: each record is taken out of the slice and laid down as 24 octets, the flat form that the batch entry reads.
+use model::Group;
+use model::Request;
+use registry::Reply;
+ghost use mathlib.Core.Path.{_≡_};
+ghost use Prim.Native.Nat.{_*_, _/_, _≤_};
+ghost use lib.ListN.{length, take};
+ghost use Rattle.records.specs.Records.{requestsIn};
+ghost use Rattle.registry.specs.Effect.{replyOn, memoryOn};
+ghost use Rattle.registry.specs.Registry.{registeringAll};
+ghost use Rattle.points.specs.Points.{hasOf, numberIn, recordOf, batchOf};
+ghost use Rattle.points.specs.Fold.{stepped, folded, noneTaken};
+
+// How many records have been taken out, and whether there is no room for more.
+pub struct Taken {
+    pub count: usize,
+    pub done: bool,
+}
+
+// Is a group given?
+fn has_of(group: Group) -> u8
+    ensures { λ r. ⌜ r ≡ hasOf group ⌝ }
+{
+    match group {
+        Group::None => 0,
+        Group::Number(_) => 1,
+    }
+}
+
+// The number of a group, 0 for none.
+fn number_in(group: Group) -> u8
+    ensures { λ r. ⌜ r ≡ numberIn group ⌝ }
+{
+    match group {
+        Group::None => 0,
+        Group::Number(g) => g,
+    }
+}
+
+// The 24 octets of a point record.
+fn record_of(q: Request) -> [u8; 24]
+    ensures { λ r. ⌜ r ≡ recordOf q ⌝ }
+{
+    let group = q.group;
+    let counter = q.counter;
+    let v = q.value;
+    [
+        (q.ca % 256) as u8,
+        (q.ca / 256) as u8,
+        (q.ioa % 256) as u8,
+        (q.ioa / 256 % 256) as u8,
+        (q.ioa / 65536 % 256) as u8,
+        (q.ioa / 16777216) as u8,
+        q.kind,
+        has_of(group),
+        number_in(group),
+        has_of(counter),
+        number_in(counter),
+        0,
+        v[0],
+        v[1],
+        v[2],
+        v[3],
+        v[4],
+        v[5],
+        v[6],
+        v[7],
+        v[8],
+        v[9],
+        v[10],
+        v[11],
+    ]
+}
+
+// Lays a record down after those that were taken out before; done where there is no room for it.
+pub fn lay_down(m: &mut [u8], s: Taken, p: Request) -> Taken
+    ensures { λ r. ⌜ (r ≡ stepped (now (m .entry)) s p .state) × (now (m .exit) ≡ stepped (now (m .entry)) s p .memory) ⌝ }
+{
+    let count = s.count;
+    if count < m.len() / 24 {
+        let octets = record_of(p);
+        octets::copy_in(&octets, m, 24 * count);
+        return Taken {
+            count: count + 1,
+            done: false,
+        };
+    }
+    Taken {
+        count: count,
+        done: true,
+    }
+}
+
+// Takes each record out of the slice and lays it down, as long as there is room.
+pub fn take_out(m: &mut [u8], points: &[Request], s: Taken) -> Taken
+    ensures { λ r. ⌜ (r ≡ folded (now (m .entry)) s (now (points .entry)) .state) × (now (m .exit) ≡ folded (now (m .entry)) s (now (points .entry)) .memory) ⌝ }
+{
+    let mut t = s;
+    let mut i = 0;
+    while i < points.len() && !t.done {
+        let p = points[i];
+        t = lay_down(&mut *m, t, p);
+        i += 1;
+    }
+    t
+}
+
+// Nothing taken out yet.
+fn none_taken() -> Taken
+    ensures { λ r. ⌜ r ≡ noneTaken ⌝ }
+{
+    Taken {
+        count: 0,
+        done: false,
+    }
+}
+
+// Registers the records that were laid down.
+fn register_taken(table: &mut [u8], records: &mut [u8], taken: Taken) -> Reply
+    requires { ⌜ taken .count ≤ length (now records) / 24 ⌝ }
+    ensures { λ r. ⌜ (r ≡ replyOn (registeringAll (requestsIn (take (24 * taken .count) (now (records .entry))))) (now (table .entry))) × (now (table .exit) ≡ memoryOn (registeringAll (requestsIn (take (24 * taken .count) (now (records .entry))))) (now (table .entry))) × (now (records .exit) ≡ now (records .entry)) ⌝ }
+{
+    let end = 24 * taken.count;
+    batch::register_points(table, &records[..end])
+}
+
+// Registers a batch of point records, taken out into the memory lent for them: 3, then 11 to 17 of each in list order, then 19 and 20; all or none.
+pub fn register_points_in(table: &mut [u8], points: &[Request], records: &mut [u8]) -> Reply
+    ensures { λ r. ⌜ (r ≡ replyOn (registeringAll (batchOf (length (now (records .entry))) (now (points .entry)))) (now (table .entry))) × (now (table .exit) ≡ memoryOn (registeringAll (batchOf (length (now (records .entry))) (now (points .entry)))) (now (table .entry))) × (now (records .exit) ≡ folded (now (records .entry)) noneTaken (now (points .entry)) .memory) ⌝ }
+{
+    let taken = take_out(&mut *records, points, none_taken());
+    register_taken(table, records, taken)
+}
+
+// How many octets the records of the longest batch that can be registered take, and of one more: 24 × 4,097.
+const ROOM: usize = 98328;
+
+// Registers a batch of point records: the first 4,097 decide, of which at most 4,096 can be admitted.
+pub fn register_points(table: &mut [u8], points: &[Request]) -> Reply
+    ensures { λ r. ⌜ (r ≡ replyOn (registeringAll (batchOf 98328 (now (points .entry)))) (now (table .entry))) × (now (table .exit) ≡ memoryOn (registeringAll (batchOf 98328 (now (points .entry)))) (now (table .entry))) ⌝ }
+{
+    let mut records = [0u8; ROOM];
+    register_points_in(table, points, &mut records)
+}
