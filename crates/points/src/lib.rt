@@ -135,7 +135,8 @@ pub fn register_points_in(table: &mut [u8], points: &[Request], records: &mut [u
 // How many octets the records of the longest batch that can be registered take, and of one more: 24 × 4,097.
 const ROOM: usize = 98328;
 
-// Registers a batch of point records: the first 4,097 decide, of which at most 4,096 can be admitted.
+// Registers a batch of point records. A list of more than 4,096 is refused in any case: its first 4,097 points decide how; with memory lent for
+// all its records, `register_points_in` also names a fault that stands later.
 pub fn register_points(table: &mut [u8], points: &[Request]) -> Reply
     ensures { λ r. ⌜ (r ≡ replyOn (registeringAll (batchOf 98328 (now (points .entry)))) (now (table .entry))) × (now (table .exit) ≡ memoryOn (registeringAll (batchOf 98328 (now (points .entry)))) (now (table .entry))) ⌝ }
 {
