@@ -1,7 +1,7 @@
 -- Long batches, and the flat form: the slice entry and the flat entry answer alike wherever there is room for all records, and a batch of more points than K is refused by both.
 -- Assumes nothing.
 use mathlib.Core.Path.{_≡_, refl, sym, ap, _∙_}
-use mathlib.Core.List.{List, [], _∷_, map}
+use mathlib.Core.List.{List, [], _∷_, _++_, map}
 use mathlib.Core.Bool.{Bool, true, false}
 use mathlib.Core.Option.{Option, some}
 use Prim.Native.Nat.{ℕ, suc, _+_, _/_, _≤_, _<_}
@@ -20,7 +20,8 @@ use Rattle.table.proofs.Parse.{Good}
 use Rattle.table.proofs.Change.{station-found, stations-split, insert-length}
 use Rattle.table.proofs.Cut.{total-at}
 use Rattle.registry.specs.Effect.{Effect, refused}
-use Rattle.registry.specs.Registry.{roomFault, withRequest, ownTests, roomTests, registeringAll}
+use Rattle.registry.specs.declared.Reply.{Reply}
+use Rattle.registry.specs.Registry.{roomFault, withRequest, batchFault, ownTests, roomTests, registeringAll}
 use Rattle.registry.specs.History.{AllTwelve, Call, registerAll}
 use Rattle.registry.proofs.Requests.{Accepted, accepted-good}
 use Rattle.registry.proofs.Batches.{Ready, ready-more, own-tests-ready, ready-after, passes-accepted}
@@ -110,3 +111,55 @@ long-slice-refused t ps g long =
     let n : length (batchOf 98328 ps) ≡ 4097 = length-map (take 4097 ps) whole ∙ length-take-le 4097 ps (omega arith) in
     let k = g .k-high in
     long-refused t (batchOf 98328 ps) g (batch-twelve 98328 ps) (omega arith)
+
+-- ---- where the slice entry and the flat entry can differ
+
+-- A fault among the first points is the batch's fault.
+own-first : (t : Table) (earlier : List Request) (i : ℕ) (P Q : List Request) → isDone (ownTests t earlier i P .outcome) ≡ false → ownTests t earlier i (P ++ Q) ≡ ownTests t earlier i P
+unfolding ownTests
+own-first t earlier i [] Q h = not-both (sym h)
+own-first t earlier i (q ∷ P) Q h = by-test (isDone (batchFault t earlier q)) (own-first t (q ∷ earlier) (i + 1) P Q) h
+  where
+    by-test : (b : Bool) → (isDone (ownTests t (q ∷ earlier) (i + 1) P .outcome) ≡ false → ownTests t (q ∷ earlier) (i + 1) (P ++ Q) ≡ ownTests t (q ∷ earlier) (i + 1) P)
+        → isDone (pick b (ownTests t (q ∷ earlier) (i + 1) P) (record { outcome = batchFault t earlier q; place = i }) .outcome) ≡ false
+        → pick b (ownTests t (q ∷ earlier) (i + 1) (P ++ Q)) (record { outcome = batchFault t earlier q; place = i }) ≡ pick b (ownTests t (q ∷ earlier) (i + 1) P) (record { outcome = batchFault t earlier q; place = i })
+    by-test true rest e = rest e
+    by-test false rest e = refl
+
+-- Where all pass, the first ones do.
+own-passed : (t : Table) (P Q : List Request) → ownTests t [] 0 (P ++ Q) .outcome ≡ Done → ownTests t [] 0 P .outcome ≡ Done
+own-passed t P Q e = by-test (isDone (ownTests t [] 0 P .outcome)) refl
+  where
+    by-test : (b : Bool) → isDone (ownTests t [] 0 P .outcome) ≡ b → ownTests t [] 0 P .outcome ≡ Done
+    by-test true d = done-is _ d
+    by-test false d = not-both (sym d ∙ ap (λ (r : Reply). isDone (r .outcome)) (sym (own-first t [] 0 P Q d)) ∙ ap isDone e)
+
+-- A refusal for room among the first points is the batch's.
+room-first : (t : Table) (i : ℕ) (P Q : List Request) → isDone (roomTests t i P .outcome) ≡ false → roomTests t i (P ++ Q) ≡ roomTests t i P
+unfolding roomTests
+room-first t i [] Q h = not-both (sym h)
+room-first t i (q ∷ P) Q h = by-test (isDone (roomFault t (stationOf (q .ca) (t .stations)))) (room-first (withRequest t q) (i + 1) P Q) h
+  where
+    by-test : (b : Bool) → (isDone (roomTests (withRequest t q) (i + 1) P .outcome) ≡ false → roomTests (withRequest t q) (i + 1) (P ++ Q) ≡ roomTests (withRequest t q) (i + 1) P)
+        → isDone (pick b (roomTests (withRequest t q) (i + 1) P) (refused (roomFault t (stationOf (q .ca) (t .stations))) i t) .outcome) ≡ false
+        → pick b (roomTests (withRequest t q) (i + 1) (P ++ Q)) (refused (roomFault t (stationOf (q .ca) (t .stations))) i t)
+        ≡ pick b (roomTests (withRequest t q) (i + 1) P) (refused (roomFault t (stationOf (q .ca) (t .stations))) i t)
+    by-test true rest e = rest e
+    by-test false rest e = refl
+
+module _ (t : Table) (P Q : List Request) where
+  -- A batch whose first points have a fault is answered by them.
+  pub first-fault-decides : isDone (ownTests t [] 0 P .outcome) ≡ false → registeringAll (P ++ Q) t ≡ registeringAll P t
+  unfolding registeringAll
+  first-fault-decides d =
+      let e = own-first t [] 0 P Q d in
+      let d′ : isDone (ownTests t [] 0 (P ++ Q) .outcome) ≡ false = ap (λ (r : Reply). isDone (r .outcome)) e ∙ d in
+      simp (d′, d) (ap (λ (r : Reply). refused (r .outcome) (r .place) t) e)
+
+  -- So is one whose points all pass their own tests, if its first points are more than K. The two entries differ only where the first 4,097 points pass and a later one does not.
+  pub first-points-decide : Good t → AllTwelve P → t .capacity < length P → ownTests t [] 0 (P ++ Q) .outcome ≡ Done → registeringAll (P ++ Q) t ≡ registeringAll P t
+  unfolding registeringAll
+  first-points-decide g w long e =
+      let p = own-passed t P Q e in
+      let r : isDone (roomTests t 0 P .outcome) ≡ false = sym (simp (ap isDone p)) ∙ long-refused t P g w long in
+      simp (ap isDone e, ap isDone p) (room-first t 0 P Q r)
