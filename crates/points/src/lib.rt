@@ -38,7 +38,7 @@ fn number_in(group: Group) -> u8
 }
 
 // The 24 octets of a point record.
-fn record_of(q: Request) -> [u8; 24]
+pub fn record_of(q: Request) -> [u8; 24]
     ensures { λ r. ⌜ r ≡ recordOf q ⌝ }
 {
     let group = q.group;
