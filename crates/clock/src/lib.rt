@@ -39,7 +39,7 @@ fn flag_of(known: bool) -> u8
 }
 
 // Time and flag as eight octets.
-fn octets_of(time: [u8; 7], known: bool) -> [u8; 8]
+pub fn octets_of(time: [u8; 7], known: bool) -> [u8; 8]
     ensures { λ r. ⌜ r ≡ withFlag time known ⌝ }
 {
     [
@@ -55,7 +55,7 @@ fn octets_of(time: [u8; 7], known: bool) -> [u8; 8]
 }
 
 // The clock of eight octets.
-fn clock_of(flat: [u8; 8]) -> Clock
+pub fn clock_of(flat: [u8; 8]) -> Clock
     ensures { λ r. ⌜ r ≡ clockOf flat ⌝ }
 {
     Clock {

@@ -73,7 +73,7 @@ pub fn record_of(q: Request) -> [u8; 24]
 }
 
 // Lays a record down after those that were taken out before; done where there is no room for it.
-pub fn lay_down(m: &mut [u8], s: Taken, p: Request) -> Taken
+fn lay_down(m: &mut [u8], s: Taken, p: Request) -> Taken
     ensures { λ r. ⌜ (r ≡ stepped (now (m .entry)) s p .state) × (now (m .exit) ≡ stepped (now (m .entry)) s p .memory) ⌝ }
 {
     let count = s.count;
@@ -92,7 +92,7 @@ pub fn lay_down(m: &mut [u8], s: Taken, p: Request) -> Taken
 }
 
 // Takes each record out of the slice and lays it down, as long as there is room.
-pub fn take_out(m: &mut [u8], points: &[Request], s: Taken) -> Taken
+fn take_out(m: &mut [u8], points: &[Request], s: Taken) -> Taken
     ensures { λ r. ⌜ (r ≡ folded (now (m .entry)) s (now (points .entry)) .state) × (now (m .exit) ≡ folded (now (m .entry)) s (now (points .entry)) .memory) ⌝ }
 {
     let mut t = s;
@@ -124,8 +124,8 @@ fn register_taken(table: &mut [u8], records: &mut [u8], taken: Taken) -> Reply
     batch::register_points(table, &records[..end])
 }
 
-// Registers a batch of point records, taken out into the memory lent for them: 3, then 11 to 17 of each in list order, then 19 and 20; all or none.
-pub fn register_points_in(table: &mut [u8], points: &[Request], records: &mut [u8]) -> Reply
+// Registers the batch of the point records that the memory lent for them has room for: 3, then 11 to 17 of each in list order, then 19 and 20; all or none.
+fn register_points_in(table: &mut [u8], points: &[Request], records: &mut [u8]) -> Reply
     ensures { λ r. ⌜ (r ≡ replyOn (registeringAll (batchOf (length (now (records .entry))) (now (points .entry)))) (now (table .entry))) × (now (table .exit) ≡ memoryOn (registeringAll (batchOf (length (now (records .entry))) (now (points .entry)))) (now (table .entry))) × (now (records .exit) ≡ folded (now (records .entry)) noneTaken (now (points .entry)) .memory) ⌝ }
 {
     let taken = take_out(&mut *records, points, none_taken());
@@ -135,7 +135,8 @@ pub fn register_points_in(table: &mut [u8], points: &[Request], records: &mut [u
 // How many octets the records of the longest batch that can be registered take, and of one more: 24 × 4,097.
 const ROOM: usize = 98328;
 
-// Registers a batch of point records: the first 4,097 decide, of which at most 4,096 can be admitted.
+// Registers a batch of point records. A list of more than 4,096 is refused in any case, and its first 4,097 points decide how: a fault of the tests
+// 11 to 17 that stands later is not named.
 pub fn register_points(table: &mut [u8], points: &[Request]) -> Reply
     ensures { λ r. ⌜ (r ≡ replyOn (registeringAll (batchOf 98328 (now (points .entry)))) (now (table .entry))) × (now (table .exit) ≡ memoryOn (registeringAll (batchOf 98328 (now (points .entry)))) (now (table .entry))) ⌝ }
 {

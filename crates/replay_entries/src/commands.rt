@@ -17,7 +17,7 @@ pub fn started(at: usize, table: &[u8], answer: &mut [u8]) -> usize {
 }
 
 // The octets of an ASDU: those given in the script, then zeros.
-fn asdu_in(script: &[u8], at: usize, asdu: &mut [u8]) -> usize {
+pub fn asdu_in(script: &[u8], at: usize, asdu: &mut [u8]) -> usize {
     let start = past(script, at, 4);
     let given = length_in_two(script, past(script, at, 2));
     copy_in(part(script, start, given), asdu);

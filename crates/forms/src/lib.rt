@@ -1,0 +1,46 @@
+// Calls of the two forms by hand, with plain values in their signatures: arrays of point records, and a clock that comes and goes.
+use clock::Clock;
+use clock::Told;
+use model::Request;
+use registry::Reply;
+ghost use mathlib.Core.Path.{_≡_};
+ghost use Rattle.limits.specs.Size.{standardLimit};
+ghost use Rattle.registry.specs.Effect.{replyOn, memoryOn};
+ghost use Rattle.registry.specs.Registry.{registeringAll};
+ghost use Rattle.points.specs.Points.{batchOf};
+ghost use Rattle.answers.specs.System.{systemSaid};
+ghost use Rattle.system_command_handler.specs.Handler.{lentTo};
+ghost use Rattle.clock.specs.Clock.{octetsOf, Leaves};
+
+// Registers no points.
+pub fn register_none(table: &mut [u8], points: [Request; 0]) -> Reply
+    ensures { λ r. ⌜ (r ≡ replyOn (registeringAll (batchOf 98328 points)) (now (table .entry))) × (now (table .exit) ≡ memoryOn (registeringAll (batchOf 98328 points)) (now (table .entry))) ⌝ }
+{
+    points::register_points(table, &points)
+}
+
+// Registers a batch of one point.
+pub fn register_one(table: &mut [u8], points: [Request; 1]) -> Reply
+    ensures { λ r. ⌜ (r ≡ replyOn (registeringAll (batchOf 98328 points)) (now (table .entry))) × (now (table .exit) ≡ memoryOn (registeringAll (batchOf 98328 points)) (now (table .entry))) ⌝ }
+{
+    points::register_points(table, &points)
+}
+
+// Registers a batch of three points.
+pub fn register_three(table: &mut [u8], points: [Request; 3]) -> Reply
+    ensures { λ r. ⌜ (r ≡ replyOn (registeringAll (batchOf 98328 points)) (now (table .entry))) × (now (table .exit) ≡ memoryOn (registeringAll (batchOf 98328 points)) (now (table .entry))) ⌝ }
+{
+    points::register_points(table, &points)
+}
+
+// A system command on a clock that comes by value and goes back: it is kept here, and lent to the entry.
+pub fn system_command(table: &mut [u8], before: Clock, asdu: &[u8], answer: &mut [u8]) -> Told
+    ensures { λ r. ⌜ Leaves (systemSaid standardLimit (octetsOf before) (now (asdu .entry))) (lentTo (now (table .entry)) (octetsOf before) (now (answer .entry))) (r .answered) (r .clock) (now (table .exit)) (now (answer .exit)) ⌝ }
+{
+    let mut kept = before;
+    let answered = clock::system_command(table, &mut kept, asdu, answer);
+    Told {
+        answered: answered,
+        clock: kept,
+    }
+}

@@ -1,0 +1,144 @@
+// The whole replay, as in `replay_entries`, with the calls of the two forms by hand.
+use crate::calls;
+use replay::line;
+use replay::memory::checksum;
+use replay::prepare::Lent;
+use replay::prepare::moved;
+use replay::prepare::prepare;
+use replay::prepare::start;
+use replay::script::octet;
+use replay::script::past;
+use replay_entries::registration;
+
+// Makes the call at which the script stands, on just the memory that is lent.
+fn call(
+    script: &[u8],
+    at: usize,
+    table: &mut [u8],
+    clock: &mut [u8; 8],
+    answer: &mut [u8],
+) -> usize {
+    let letter = octet(script, at);
+    let after = past(script, at, 1);
+    if letter == b's' {
+        return calls::system(script, after, table, clock, answer);
+    }
+    if letter == b'b' {
+        return calls::batch(script, after, table);
+    }
+    registration::call(script, letter, after, table)
+}
+
+// Ends the line of a call with the checksum of all memory.
+fn print_checksum(table: &[u8], clock: &[u8; 8], answer: &[u8], spontaneous: &[u8]) {
+    line::end(checksum(
+        checksum(checksum(checksum(0, table), clock), answer),
+        spontaneous,
+    ));
+}
+
+// Makes a call and ends its line.
+fn call_and_print(
+    script: &[u8],
+    at: usize,
+    table: &mut [u8],
+    clock: &mut [u8; 8],
+    answer: &mut [u8],
+    spontaneous: &mut [u8],
+) -> usize {
+    let next = call(script, at, table, clock, answer);
+    print_checksum(table, clock, answer, spontaneous);
+    next
+}
+
+// Makes one step of a script: sets memory or makes a call.
+fn step(
+    script: &[u8],
+    lent: Lent,
+    table: &mut [u8],
+    kept: &mut [u8],
+    clock: &mut [u8; 8],
+    answer: &mut [u8],
+    spontaneous: &mut [u8],
+) -> Lent {
+    let set = prepare(script, lent, table, kept, clock, answer, spontaneous);
+    let at = lent.at;
+    if set.at != at {
+        return set;
+    }
+    let z = 0;
+    let t = lent.table;
+    let a = lent.answer;
+    let s = lent.spontaneous;
+    if table.len() < t {
+        return moved(lent, script.len());
+    }
+    if answer.len() < a {
+        return moved(lent, script.len());
+    }
+    if spontaneous.len() < s {
+        return moved(lent, script.len());
+    }
+    let next = call_and_print(
+        script,
+        at,
+        &mut table[z..t],
+        clock,
+        &mut answer[z..a],
+        &mut spontaneous[z..s],
+    );
+    moved(lent, next)
+}
+
+// Makes every step. Each takes at least one octet of the script, so there are no more steps than octets.
+fn steps(
+    script: &[u8],
+    table: &mut [u8],
+    kept: &mut [u8],
+    clock: &mut [u8; 8],
+    answer: &mut [u8],
+    spontaneous: &mut [u8],
+) {
+    let mut lent = start();
+    let mut left = script.len();
+    while left > 0 {
+        let at = lent.at;
+        if script.len() <= at {
+            return;
+        }
+        lent = step(script, lent, table, kept, clock, answer, spontaneous);
+        left -= 1;
+    }
+}
+
+// Replays a script that has been read.
+fn replay_script(script: &[u8]) {
+    let mut table = [0u8; 200000];
+    let mut kept = [0u8; 200000];
+    let mut clock = [0u8; 8];
+    let mut answer = [0u8; 65536];
+    let mut spontaneous = [0u8; 65536];
+    steps(
+        script,
+        &mut table,
+        &mut kept,
+        &mut clock,
+        &mut answer,
+        &mut spontaneous,
+    );
+}
+
+// Replays the script in the file that the first argument names.
+pub fn replay_file() {
+    let mut path = io::buffer();
+    let length = os::arg(1, &mut path);
+    let fd = os::open_read(&path[..length]);
+    if fd < 0 {
+        os::fail(&path[..length]);
+        return;
+    }
+    let mut script = [0u8; 524288];
+    let n = io::read_full(fd, &mut script);
+    libc::close(fd);
+    replay_script(&script[..n]);
+}
