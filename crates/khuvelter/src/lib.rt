@@ -165,7 +165,12 @@ pub extern "C" fn khuvelter_share(table: &[u8], ca: u16) -> Share
 
 // A system command: interrogation, counters, read, clock, tests, reset process. `clock` is seven octets of time and the known flag.
 #[no_mangle]
-pub extern "C" fn khuvelter_system_command(table: &mut [u8], clock: &mut [u8; 8], asdu: &[u8], answer: &mut [u8]) -> Reply
+pub extern "C" fn khuvelter_system_command(
+    table: &mut [u8],
+    clock: &mut [u8; 8],
+    asdu: &[u8],
+    answer: &mut [u8],
+) -> Reply
     ensures { λ r. ⌜ SystemReply (systemSaid standardLimit (now (clock .entry)) (now (asdu .entry))) (lentToSystem (now (table .entry)) (now (clock .entry)) (now (answer .entry))) r (now (clock .exit)) (now (table .exit)) (now (answer .exit)) ⌝ }
 {
     let said = system_command_handler::system_command(table, *clock, asdu, answer);
@@ -176,10 +181,28 @@ pub extern "C" fn khuvelter_system_command(table: &mut [u8], clock: &mut [u8; 8]
 
 // A process command with the caller's proposal; `negative` is 0 for no, anything else for yes.
 #[no_mangle]
-pub extern "C" fn khuvelter_process_command(table: &mut [u8], asdu: &[u8], negative: u8, reply_type: u8, reply: &[u8], updates: &[u8], answer: &mut [u8], spontaneous: &mut [u8]) -> Reply
+pub extern "C" fn khuvelter_process_command(
+    table: &mut [u8],
+    asdu: &[u8],
+    negative: u8,
+    reply_type: u8,
+    reply: &[u8],
+    updates: &[u8],
+    answer: &mut [u8],
+    spontaneous: &mut [u8],
+) -> Reply
     ensures { λ r. ⌜ ProcessReply (processSaid standardLimit (proposalOf (isSet negative) «reply_type» (now (reply .entry)) (now (updates .entry))) (now (asdu .entry))) (lentToProcess (now (table .entry)) (now (answer .entry)) (now (spontaneous .entry))) r (now (table .exit)) (now (answer .exit)) (now (spontaneous .exit)) ⌝ }
 {
-    answer_reply(commands::process_command(table, asdu, is_set(negative), reply_type, reply, updates, answer, spontaneous))
+    answer_reply(commands::process_command(
+        table,
+        asdu,
+        is_set(negative),
+        reply_type,
+        reply,
+        updates,
+        answer,
+        spontaneous,
+    ))
 }
 
 // A flag octet: 0 for no, anything else for yes.

@@ -5,3 +5,4 @@ pub mod Alone
 pub mod Steps
 pub mod Longer
 pub mod Lists
+pub mod Flat

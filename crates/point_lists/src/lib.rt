@@ -166,6 +166,6 @@ pub fn register_points(table: &mut [u8], points: &[Request]) -> Reply
 {
     let begun = start(&mut *table);
     let later = later_tests(&mut *table, points, points, begun);
-    let first = points::register_points(table, points);
+    let first = points::register_first(table, points);
     answer_of(later, first)
 }

@@ -121,9 +121,9 @@ module _ (m : List ℕ) (c : Command) (sel : Selection) (s : Station) (l : Lent)
   reports room =
       let l′ : Lent = record { table = holding (l .table) t t; clock = l .clock; answer = fronted (answerTo m c sel s) (l .answer); spontaneous = l .spontaneous } in
       let e : Ends f l (record { outcome = Done; octets = length (answerTo m c sel s); spontaneous = 0 }) l′ =
-          ends-done f l w (length (answerTo m c sel s)) l′ (ap (λ (x : Said). x .outcome) said) (ap (λ (x : Said). x .told) said)
-          (sym (ap (λ (x : Said). length (x .answer)) said)) room
-          (sym (ap (λ (x : Said). record { table = holding (l .table) t (x .after); clock = x .clock; answer = fronted (x .answer) (l .answer); spontaneous = l .spontaneous }) said))
+      ends-done f l w (length (answerTo m c sel s)) l′ (ap (λ (x : Said). x .outcome) said) (ap (λ (x : Said). x .told) said)
+      (sym (ap (λ (x : Said). length (x .answer)) said)) room
+      (sym (ap (λ (x : Said). record { table = holding (l .table) t (x .after); clock = x .clock; answer = fronted (x .answer) (l .answer); spontaneous = l .spontaneous }) said))
       in
       let y = interrogation-faithful (qualifierOf m) (c .ca) sel s rises in
       record {
@@ -140,7 +140,7 @@ module _ (m : List ℕ) (c : Command) (sel : Selection) (s : Station) (l : Lent)
   pub too-long : length (l .answer) < length (answerTo m c sel s) → (answeredOn f l ≡ nothing AnswerShort) × (lentAfter f l ≡ l)
   too-long short =
       let e : Ends f l (nothing AnswerShort) l =
-          ends-short f l w (ap (λ (x : Said). x .outcome) said) (ap (λ (x : Said). x .told) said)
-          (subst (λ (x : Said). length (l .answer) < length (x .answer)) (sym said) short)
+      ends-short f l w (ap (λ (x : Said). x .outcome) said) (ap (λ (x : Said). x .told) said)
+      (subst (λ (x : Said). length (l .answer) < length (x .answer)) (sym said) short)
       in
       (sym (e .answers), sym (e .leaves))

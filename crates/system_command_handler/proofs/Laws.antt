@@ -49,7 +49,7 @@ one-after-another m E D e le h =
     let s2 : over (over m 0 E) e D ≡ E ++ (D ++ R) = ap (λ (x : List ℕ). over x e D) s1 ∙ over-at E B R D e le lb in
     let w : length (A ++ B) ≡ length (E ++ D) = length-append A B ∙ ap₂ (λ (x y : ℕ). x + y) (la ∙ sym le) lb ∙ sym (length-append E D) in
     let s3 : over m 0 (E ++ D) ≡ (E ++ D) ++ R =
-      ap (λ (x : List ℕ). over x 0 (E ++ D)) (split ∙ sym (append-assoc A B R)) ∙ over-at [] (A ++ B) R (E ++ D) 0 refl w in
+    ap (λ (x : List ℕ). over x 0 (E ++ D)) (split ∙ sym (append-assoc A B R)) ∙ over-at [] (A ++ B) R (E ++ D) 0 refl w in
     s2 ∙ sym (append-assoc E D R) ∙ sym s3
 
 -- ---- how the entry ends

@@ -70,11 +70,27 @@ fn counters(table: &mut [u8], answer: &mut [u8], command: Command, asdu: &[u8]) 
 // ---- read
 
 // Writes the requested ASDUs into what remains of the answer memory from `at`.
-fn put_requested(answer: &mut [u8], at: usize, table: &[u8], first: usize, h: usize, command: Command, asdu: &[u8])
+fn put_requested(
+    answer: &mut [u8],
+    at: usize,
+    table: &[u8],
+    first: usize,
+    h: usize,
+    command: Command,
+    asdu: &[u8],
+)
     requires { ⌜ (first + 48 * h ≤ length (now table)) × (6 + 3 * command .count ≤ length (now asdu)) × (at + length (requestedAt (now table) first h (command .ca) (now asdu) 6 (command .count)) ≤ length (now answer)) ⌝ }
     ensures { λ _. ⌜ now (answer .exit) ≡ over (now (answer .entry)) at (requestedAt (now (table .entry)) first h (command .ca) (now (asdu .entry)) 6 (command .count)) ⌝ }
 {
-    reads::put_requested(&mut answer[at..], table, first, h, asdu, command.count as usize, command.ca);
+    reads::put_requested(
+        &mut answer[at..],
+        table,
+        first,
+        h,
+        asdu,
+        command.count as usize,
+        command.ca,
+    );
 }
 
 // The echo of all objects, negative where an address is missing; else one ASDU for each object, in the command's order.
@@ -85,7 +101,8 @@ fn read(answer: &mut [u8], table: &[u8], command: Command, asdu: &[u8]) -> Answe
     let Seat::Here(_, first, h) = seats::seat_at(table, command.ca as usize) else {
         return confirming::echo(answer, command, asdu, cot::ACTIVATION_CONFIRMATION, true);
     };
-    let Asked::Known(octets) = reads::read_octets(table, first, h, asdu, command.count as usize) else {
+    let Asked::Known(octets) = reads::read_octets(table, first, h, asdu, command.count as usize)
+    else {
         return confirming::echo(answer, command, asdu, cot::ACTIVATION_CONFIRMATION, true);
     };
     let before = asdu.len();
@@ -111,7 +128,16 @@ fn clock_of(asdu: &[u8]) -> [u8; 8]
     requires { ⌜ 16 ≤ length (now asdu) ⌝ }
     ensures { λ r. ⌜ r ≡ clockFrom (now (asdu .entry)) ⌝ }
 {
-    [asdu[9], asdu[10], asdu[11], asdu[12], asdu[13], asdu[14], asdu[15], 1]
+    [
+        asdu[9],
+        asdu[10],
+        asdu[11],
+        asdu[12],
+        asdu[13],
+        asdu[14],
+        asdu[15],
+        1,
+    ]
 }
 
 // An answer with the clock that goes back.
@@ -158,13 +184,22 @@ fn is_skipped(command: Command, asdu: &[u8]) -> bool
 // ---- the entry
 
 // What a command that is taken says, by its type.
-fn answer_command(table: &mut [u8], clock: [u8; 8], asdu: &[u8], answer: &mut [u8], command: Command) -> SystemAnswered
+fn answer_command(
+    table: &mut [u8],
+    clock: [u8; 8],
+    asdu: &[u8],
+    answer: &mut [u8],
+    command: Command,
+) -> SystemAnswered
     requires { ⌜ (wellFormed (now table) ≡ true) × (readAs standardLimit SystemCommands (now asdu) ≡ Parsed command) × (0 < command .count) ⌝ }
     ensures { λ r. ⌜ Leaves (commandSaid standardLimit clock (now (asdu .entry)) command) (lentTo (now (table .entry)) clock (now (answer .entry))) r (now (table .exit)) (now (answer .exit)) ⌝ }
 {
     let kind = command.kind;
     if kind == C_IC_NA_1 {
-        return with_clock(interrogations::interrogate(answer, table, command, asdu), clock);
+        return with_clock(
+            interrogations::interrogate(answer, table, command, asdu),
+            clock,
+        );
     }
     if kind == C_CI_NA_1 {
         return with_clock(counters(table, answer, command, asdu), clock);
@@ -184,7 +219,13 @@ fn answer_command(table: &mut [u8], clock: [u8; 8], asdu: &[u8], answer: &mut [u
 }
 
 // A command that was read: silent without a first object, silent if it is passed over, else its answer.
-fn handle_command(table: &mut [u8], clock: [u8; 8], asdu: &[u8], answer: &mut [u8], command: Command) -> SystemAnswered
+fn handle_command(
+    table: &mut [u8],
+    clock: [u8; 8],
+    asdu: &[u8],
+    answer: &mut [u8],
+    command: Command,
+) -> SystemAnswered
     requires { ⌜ (wellFormed (now table) ≡ true) × (readAs standardLimit SystemCommands (now asdu) ≡ Parsed command) ⌝ }
     ensures { λ r. ⌜ Leaves (systemSaid standardLimit clock (now (asdu .entry))) (lentTo (now (table .entry)) clock (now (answer .entry))) r (now (table .exit)) (now (answer .exit)) ⌝ }
 {
@@ -198,7 +239,12 @@ fn handle_command(table: &mut [u8], clock: [u8; 8], asdu: &[u8], answer: &mut [u
 }
 
 // The entry for system commands: 3; then 2, 1 and 2 of the reading; then the silent rules; then the answer, or 4.
-pub fn system_command(table: &mut [u8], clock: [u8; 8], asdu: &[u8], answer: &mut [u8]) -> SystemAnswered
+pub fn system_command(
+    table: &mut [u8],
+    clock: [u8; 8],
+    asdu: &[u8],
+    answer: &mut [u8],
+) -> SystemAnswered
     ensures { λ r. ⌜ Leaves (systemSaid standardLimit clock (now (asdu .entry))) (lentTo (now (table .entry)) clock (now (answer .entry))) r (now (table .exit)) (now (answer .exit)) ⌝ }
 {
     if !wellformed::well_formed(table) {

@@ -297,7 +297,7 @@ module _ {M : Type 1} (𝓤 : URA M) (H : Heap 𝓤) (A : Atoms 𝓤) (W : Given
           -- the lifetime is ended, and the bytes come back at that list
           move ! (1 ∷ []) $ split ! $ lft-end ! tt $ move ! (0 ∷ 5 ∷ 3 ∷ []) $
           use3 W (later (‵ (MutSlice (named 0) κ u8 .own (x γ (zs .0)) (bv (t .ms) ∷ [])) ⊛ ‵ (flft κ q))) (comes-back u8 κ (ν ∷ []) q γ b o 𝓤 H A W (named 0) (named 0) (t .ms) δ (zs .0) rm l) $ await ! tt $ split ! $
-          move ! (0 ∷ 1 ∷ 5 ∷ 6 ∷ []) $ move ! (4 ∷ []) $ drop ! $ move ! (4 ∷ []) $ drop ! $ move ! (4 ∷ []) $ drop ! $ 
+          move ! (0 ∷ 1 ∷ 5 ∷ 6 ∷ []) $ move ! (4 ∷ []) $ drop ! $ move ! (4 ∷ []) $ drop ! $ move ! (4 ∷ []) $ drop ! $
           -- as at the loop's test, with the temporaries still held
           assigns-last ! (bin ! (load ! (from ! (stop !)) (look ! 20 refl)) (lit ! tt) (record { fits = next-fits n (t .i) (room′ .0) (ltb→lt (t .i) n small) })) (from ! (stop !)) (store ! 20 refl (tt, record { fits = next-fits n (t .i) (room′ .0) (ltb→lt (t .i) n small) })) $
           forget ! 4 refl $ forget ! 6 refl $ forget ! 8 refl $ forget ! 10 refl $ forget ! 12 refl $ forget ! 14 refl $ forget ! 16 refl $ forget ! 18 refl $
@@ -337,7 +337,7 @@ module _ {M : Type 1} (𝓤 : URA M) (H : Heap 𝓤) (A : Atoms 𝓤) (W : Given
     walk =
         qed W ((‵ (flft κ q) ⊛ (‵ (flft κ₁ q₁) ⊛ ‵ ftrue)) ∷ ‵ (owns (MutSlice (named 0) κ u8 ∷ ShrSlice (named 1) κ₁ R ∷ Q ∷ []) a vals) ∷ []) ∵
         -- what m owns, its token, each slice that is read with its token, of what points owns the fractured borrow, and its token
-        move ! (1 ∷ []) $ fsplit ! $ move ! (1 ∷ []) $ fsplit ! $ fsplit ! $ drop ! $ fsplit ! $ drop ! $ move ! (1 ∷ []) $ drop ! $ move ! (2 ∷ []) $ split ! $ move ! (1 ∷ []) $ split ! $ 
+        move ! (1 ∷ []) $ fsplit ! $ move ! (1 ∷ []) $ fsplit ! $ fsplit ! $ drop ! $ fsplit ! $ drop ! $ move ! (1 ∷ []) $ drop ! $ move ! (2 ∷ []) $ split ! $ move ! (1 ∷ []) $ split ! $
         move ! (1 ∷ []) $ drop ! $ move ! (3 ∷ 1 ∷ 2 ∷ 0 ∷ []) $
         enter ! C Λ code.function _ _ $ alloc-all ! (code.function .locals) _ _ (λ l. params1 ! $
         pass1 ! (init ! 24 refl (tt, (tt, (record { fits = room .0 }, tt)))) $ pass1 ! (init ! 22 refl (tt, (tt, (record { fits = room′ .0 }, tt)))) $

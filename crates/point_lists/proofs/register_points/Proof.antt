@@ -1,4 +1,4 @@
--- `point_lists::register_points` meets its contract: a walk of its MIR, by hand. The table is lent again to `later_tests` for a lifetime that is made for the call, and comes back; the slice of points is read three times, by halves of its token. Then `points::register_points` is given the table for good.
+-- `point_lists::register_points` meets its contract: a walk of its MIR, by hand. The table is lent again to `later_tests` for a lifetime that is made for the call, and comes back; the slice of points is read three times, by halves of its token. Then `points::register_first` is given the table for good.
 -- All that the proof knows of the four callees is that they meet their contracts. Assumes nothing.
 use mathlib.Core.Path.{_≡_, refl, _∙_, ap, subst}
 use Prim.Native.Nat.{ℕ}
@@ -59,10 +59,10 @@ use Rattle.point_lists.proofs.later_tests as tests
 use Rattle.point_lists.proofs.later_tests.Symbol as tests-def
 use Rattle.point_lists.proofs.later_tests.Symbol.{name as #tests}
 use Rattle.point_lists.proofs.later_tests.Met as tests-thm
-use Rattle.points.proofs.register_points as begin
-use Rattle.points.proofs.register_points.Symbol as begin-def
-use Rattle.points.proofs.register_points.Symbol.{name as #begin}
-use Rattle.points.proofs.register_points.Met as begin-thm
+use Rattle.points.proofs.register_first as begin
+use Rattle.points.proofs.register_first.Symbol as begin-def
+use Rattle.points.proofs.register_first.Symbol.{name as #begin}
+use Rattle.points.proofs.register_first.Met as begin-thm
 use Rattle.point_lists.proofs.answer_of as answer
 use Rattle.point_lists.proofs.answer_of.Symbol as answer-def
 use Rattle.point_lists.proofs.answer_of.Symbol.{name as #answer}
@@ -289,5 +289,5 @@ register-points-spec 𝓤 H 𝓜 𝓖 𝓡 =
     (register-points-meets 𝓤 H (𝓖 .A) (givenOf 𝓤 H 𝓜 𝓖) (𝓜 .mem) (𝓡 .run) (tablesOf 𝓤 H 𝓜 (tables 𝓤 H 𝓜 𝓡 code.env))
     (cited 𝓤 H (Start 𝓤 H (𝓖 .A) (𝓜 .mem) (𝓡 .run)) 𝓜 𝓡 code.env #start start-def.routine code.calls-point-lists·start (start-thm.met 𝓤 H 𝓜 𝓖 𝓡))
     (cited 𝓤 H (Tests 𝓤 H (𝓖 .A) (𝓜 .mem) (𝓡 .run)) 𝓜 𝓡 code.env #tests tests-def.routine code.calls-point-lists·later-tests (tests-thm.met 𝓤 H 𝓜 𝓖 𝓡))
-    (cited 𝓤 H (Begin 𝓤 H (𝓖 .A) (𝓜 .mem) (𝓡 .run)) 𝓜 𝓡 code.env #begin begin-def.routine code.calls-points·register-points (begin-thm.met 𝓤 H 𝓜 𝓖 𝓡))
+    (cited 𝓤 H (Begin 𝓤 H (𝓖 .A) (𝓜 .mem) (𝓡 .run)) 𝓜 𝓡 code.env #begin begin-def.routine code.calls-points·register-first (begin-thm.met 𝓤 H 𝓜 𝓖 𝓡))
     (cited 𝓤 H (Answer 𝓤 H (𝓖 .A) (𝓜 .mem) (𝓡 .run)) 𝓜 𝓡 code.env #answer answer-def.routine code.calls-point-lists·answer-of (answer-thm.met 𝓤 H 𝓜 𝓖 𝓡)))
