@@ -33,7 +33,7 @@ use Rattle.points.proofs.Records.{records-law}
 pub same-as-flat : (room : ℕ) (ps : List Request) → length ps ≤ room / 24 → requestsIn (recordsOf ps) ≡ batchOf room ps
 same-as-flat room ps h = records-law ps ∙ ap (map whole) (sym (take-all (room / 24) ps h))
 
--- So they do on every batch of at most 4,097 points, with the memory that `register_points` has of its own.
+-- So they do on every batch of at most 4,097 points, with the memory that `register_first` has of its own.
 pub agree : (ps : List Request) → length ps ≤ 4097 → requestsIn (recordsOf ps) ≡ batchOf 98328 ps
 agree ps h = same-as-flat 98328 ps h
 

@@ -38,7 +38,7 @@ fn number_in(group: Group) -> u8
 }
 
 // The 24 octets of a point record.
-fn record_of(q: Request) -> [u8; 24]
+pub fn record_of(q: Request) -> [u8; 24]
     ensures { λ r. ⌜ r ≡ recordOf q ⌝ }
 {
     let group = q.group;
@@ -135,9 +135,8 @@ fn register_points_in(table: &mut [u8], points: &[Request], records: &mut [u8]) 
 // How many octets the records of the longest batch that can be registered take, and of one more: 24 × 4,097.
 const ROOM: usize = 98328;
 
-// Registers a batch of point records. A list of more than 4,096 is refused in any case, and its first 4,097 points decide how: a fault of the tests
-// 11 to 17 that stands later is not named.
-pub fn register_points(table: &mut [u8], points: &[Request]) -> Reply
+// Registers a batch of point records by its first 4,097: a longer one is refused in any case, and `point_lists` tests the points after them.
+pub fn register_first(table: &mut [u8], points: &[Request]) -> Reply
     ensures { λ r. ⌜ (r ≡ replyOn (registeringAll (batchOf 98328 (now (points .entry)))) (now (table .entry))) × (now (table .exit) ≡ memoryOn (registeringAll (batchOf 98328 (now (points .entry)))) (now (table .entry))) ⌝ }
 {
     let mut records = [0u8; ROOM];

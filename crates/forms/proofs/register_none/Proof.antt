@@ -1,4 +1,4 @@
--- `forms::register_none` meets its contract: a walk of its MIR, by hand. The array is kept in a local and lent to `points::register_points` as a slice, for a lifetime that is made for the call (`Kept.antt`).
+-- `forms::register_none` meets its contract: a walk of its MIR, by hand. The array is kept in a local and lent to `point_lists::register_points` as a slice, for a lifetime that is made for the call (`Kept.antt`).
 -- All that the proof knows of the callee is that it meets its contract. Assumes nothing.
 use mathlib.Core.Path.{_≡_, refl}
 use Prim.Native.Nat.{ℕ}
@@ -47,11 +47,11 @@ use Rattle.registry.specs.Effect.{replyOn, memoryOn}
 use Rattle.registry.specs.Registry.{registeringAll}
 use Rattle.registry.proofs.Reply as P₀
 use Rattle.registry.proofs.Reply.Laws as P₁
-use Rattle.points.specs.Points.{batchOf}
-use Rattle.points.proofs.register_points as callee
-use Rattle.points.proofs.register_points.Symbol as callee-def
-use Rattle.points.proofs.register_points.Symbol.{name as #callee}
-use Rattle.points.proofs.register_points.Met as callee-thm
+use Rattle.points.specs.Points.{whole as wholeRecord}
+use Rattle.point_lists.proofs.register_points as callee
+use Rattle.point_lists.proofs.register_points.Symbol as callee-def
+use Rattle.point_lists.proofs.register_points.Symbol.{name as #callee}
+use Rattle.point_lists.proofs.register_points.Met as callee-thm
 use Rattle.forms.proofs.Kept.{at, arrayTy, Kept, lends-array, array-back}
 use Rattle.forms.proofs.Locals.{alloc-all}
 use Rattle.forms.proofs.register_none.Key.{name as #this}
@@ -107,7 +107,7 @@ module _ {M : Type 1} (𝓤 : URA M) (H : Heap 𝓤) (A : Atoms 𝓤) (W : Given
 
   -- what the call answers
   abbrev Says : Reply → List ℕ → Type 0
-  Says p ts′ = (p ≡ replyOn (registeringAll (batchOf 98328 ps)) ts) × (ts′ ≡ memoryOn (registeringAll (batchOf 98328 ps)) ts)
+  Says p ts′ = (p ≡ replyOn (registeringAll (map wholeRecord ps)) ts) × (ts′ ≡ memoryOn (registeringAll (map wholeRecord ps)) ts)
 
   abbrev Ended : Reply → Val → List ℕ → List (Item 𝓤)
   Ended p w ts′ = ‵ (flft κ₀ q₀) ∷ ‵ (finally u8 γ₀ ts′) ∷ ‵ (P .own p (w ∷ [])) ∷ []
@@ -182,4 +182,4 @@ register-none-spec 𝓤 H 𝓜 𝓖 𝓡 =
     entered 𝓤 H (tripleOf 𝓤 H (𝓖 .A) this.signature (this.spec 𝓤 H (𝓖 .A) (𝓜 .mem) (𝓡 .run)))
     (tables 𝓤 H 𝓜 𝓡 code.env .C) (tables 𝓤 H 𝓜 𝓡 code.env .Λ) #this code.function (code.unfolded 𝓤 H 𝓜 𝓡)
     (register-none-meets 𝓤 H (𝓖 .A) (givenOf 𝓤 H 𝓜 𝓖) (𝓜 .mem) (𝓡 .run) (tablesOf 𝓤 H 𝓜 (tables 𝓤 H 𝓜 𝓡 code.env))
-    (cited 𝓤 H (Points 𝓤 H (𝓖 .A) (𝓜 .mem) (𝓡 .run)) 𝓜 𝓡 code.env #callee callee-def.routine code.calls-points·register-points (callee-thm.met 𝓤 H 𝓜 𝓖 𝓡)))
+    (cited 𝓤 H (Points 𝓤 H (𝓖 .A) (𝓜 .mem) (𝓡 .run)) 𝓜 𝓡 code.env #callee callee-def.routine code.calls-point-lists·register-points (callee-thm.met 𝓤 H 𝓜 𝓖 𝓡)))

@@ -1,4 +1,4 @@
--- `points::register_points` meets its contract: a walk of its MIR, by hand. A local array is lent to `register_points_in` for a lifetime that is made for the call, and comes back (`Buffer.antt`).
+-- `points::register_first` meets its contract: a walk of its MIR, by hand. A local array is lent to `register_points_in` for a lifetime that is made for the call, and comes back (`Buffer.antt`).
 -- All that the proof knows of `register_points_in` is that it meets its contract. Assumes nothing.
 use mathlib.Core.Path.{_≡_, refl, ap, _∙_}
 use Prim.Native.Nat.{ℕ}
@@ -56,10 +56,10 @@ use Rattle.points.proofs.register_points_in as callee
 use Rattle.points.proofs.register_points_in.Symbol as callee-def
 use Rattle.points.proofs.register_points_in.Symbol.{name as #callee}
 use Rattle.points.proofs.register_points_in.Met as callee-thm
-use Rattle.points.proofs.register_points.Key.{name as #this}
-use Rattle.points.proofs.register_points as this
-use Rattle.points.proofs.register_points.Statement as stated
-use Rattle.points.proofs.register_points.Code as code
+use Rattle.points.proofs.register_first.Key.{name as #this}
+use Rattle.points.proofs.register_first as this
+use Rattle.points.proofs.register_first.Statement as stated
+use Rattle.points.proofs.register_first.Code as code
 
 -- a point record, and the reply
 abbrev R : RattleType
@@ -177,24 +177,24 @@ module _ {M : Type 1} (𝓤 : URA M) (H : Heap 𝓤) (A : Atoms 𝓤) (W : Given
       keep ! (2 ∷ 1 ∷ 4 ∷ 3 ∷ []) $ by ! (exits p w (zs .0) (said N p (zs .0) (zs .1 .1 .0) e) e₀)))))))))))
 
 module _ {M : Type 1} (𝓤 : URA M) (H : Heap 𝓤) (A : Atoms 𝓤) (W : Given 𝓤 H A) (at-mem : Memory → SProp 𝓤) (run : Routine → Fun 𝓤) where
-  register-points-walks : (𝓣 : Tables 𝓤 H) → Triple 𝓤 (𝓣 .C #callee) (In 𝓤 H A at-mem run) → Walks 𝓤 H A this.ended stayed (WpFn 𝓤 H (𝓣 .C) (𝓣 .Λ) code.function) (this.clauses 𝓤 H A at-mem run)
-  register-points-walks 𝓣 known = walked 𝓤 H A this.ended stayed (this.clauses 𝓤 H A at-mem run) (WpFn 𝓤 H (𝓣 .C) (𝓣 .Λ) code.function)
+  register-first-walks : (𝓣 : Tables 𝓤 H) → Triple 𝓤 (𝓣 .C #callee) (In 𝓤 H A at-mem run) → Walks 𝓤 H A this.ended stayed (WpFn 𝓤 H (𝓣 .C) (𝓣 .Λ) code.function) (this.clauses 𝓤 H A at-mem run)
+  register-first-walks 𝓣 known = walked 𝓤 H A this.ended stayed (this.clauses 𝓤 H A at-mem run) (WpFn 𝓤 H (𝓣 .C) (𝓣 .Λ) code.function)
       (λ κs. (slice-vals, (slice-vals, tt))) (λ κs. (mut-slice-tells (named 0) (κs .0) u8, (shr-slice-tells (named 1) (κs .1 .0) R, tt)))
       (λ κs qs bounds a _ are. via 𝓤 _ (fst∗ 𝓤 _ (emp 𝓤))
       (walk 𝓤 H A W at-mem run (κs .0) (κs .1 .0) (qs .0) (qs .1 .0) (a .0 .ptr .0) (a .0 .ptr .1) (a .0 .name) (a .0 .now) (a .1 .0 .ptr .0) (a .1 .0 .ptr .1) (a .1 .0 .name) (a .1 .0 .now)
       𝓣 known (are .0 .0 .1) (are .1 .0 .0 .1)))
 
-register-points-meets : {M : Type 1} (𝓤 : URA M) (H : Heap 𝓤) (A : Atoms 𝓤) → Given 𝓤 H A → (at-mem : Memory → SProp 𝓤) (run : Routine → Fun 𝓤) (𝓣 : Tables 𝓤 H) → Triple 𝓤 (𝓣 .C #callee) (In 𝓤 H A at-mem run)
+register-first-meets : {M : Type 1} (𝓤 : URA M) (H : Heap 𝓤) (A : Atoms 𝓤) → Given 𝓤 H A → (at-mem : Memory → SProp 𝓤) (run : Routine → Fun 𝓤) (𝓣 : Tables 𝓤 H) → Triple 𝓤 (𝓣 .C #callee) (In 𝓤 H A at-mem run)
     → Meets 𝓤 H A this.signature (WpFn 𝓤 H (𝓣 .C) (𝓣 .Λ) code.function) (this.spec 𝓤 H A at-mem run)
-register-points-meets 𝓤 H A W at-mem run 𝓣 known =
+register-first-meets 𝓤 H A W at-mem run 𝓣 known =
     walk-meets 𝓤 H A this.ended stayed W
     (goes-gave-slice 𝓤 H A W 2 0 tt (plain (λ _. u8)), (goes-dropped 𝓤 H A W 2 (shrSliceOf (1 ∷ []) tt (plain (λ _. R))) yes (λ κs x f. refl), tt))
-    (this.clauses 𝓤 H A at-mem run) (WpFn 𝓤 H (𝓣 .C) (𝓣 .Λ) code.function) (WpFn-mono 𝓤 H (W .laws) 𝓣 code.function) (register-points-walks 𝓤 H A W at-mem run 𝓣 known)
+    (this.clauses 𝓤 H A at-mem run) (WpFn 𝓤 H (𝓣 .C) (𝓣 .Λ) code.function) (WpFn-mono 𝓤 H (W .laws) 𝓣 code.function) (register-first-walks 𝓤 H A W at-mem run 𝓣 known)
 
-pub register-points-spec : {M : Type 1} → stated.statement M
+pub register-first-spec : {M : Type 1} → stated.statement M
 unfolding code.routine tablesOf
-register-points-spec 𝓤 H 𝓜 𝓖 𝓡 =
+register-first-spec 𝓤 H 𝓜 𝓖 𝓡 =
     entered 𝓤 H (tripleOf 𝓤 H (𝓖 .A) this.signature (this.spec 𝓤 H (𝓖 .A) (𝓜 .mem) (𝓡 .run)))
     (tables 𝓤 H 𝓜 𝓡 code.env .C) (tables 𝓤 H 𝓜 𝓡 code.env .Λ) #this code.function (code.unfolded 𝓤 H 𝓜 𝓡)
-    (register-points-meets 𝓤 H (𝓖 .A) (givenOf 𝓤 H 𝓜 𝓖) (𝓜 .mem) (𝓡 .run) (tablesOf 𝓤 H 𝓜 (tables 𝓤 H 𝓜 𝓡 code.env))
+    (register-first-meets 𝓤 H (𝓖 .A) (givenOf 𝓤 H 𝓜 𝓖) (𝓜 .mem) (𝓡 .run) (tablesOf 𝓤 H 𝓜 (tables 𝓤 H 𝓜 𝓡 code.env))
     (cited 𝓤 H (In 𝓤 H (𝓖 .A) (𝓜 .mem) (𝓡 .run)) 𝓜 𝓡 code.env #callee callee-def.routine code.calls-points·register-points-in (callee-thm.met 𝓤 H 𝓜 𝓖 𝓡)))

@@ -1,0 +1,4 @@
+pub mod Again
+pub mod Locals
+pub mod Turns
+pub mod Found
