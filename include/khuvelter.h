@@ -9,6 +9,7 @@
  * What the proof takes for granted, and you must see to:
  *   - a pointer and its length name memory that is yours for the whole call; a length of 0 goes with any pointer that is not NULL;
  *   - a memory that a call may write (no const) overlaps no other memory of the same call;
+ *   - a spontaneous memory has less than 4 GiB, and a batch less than 2^32 points: the reply's numbers have 32 bits;
  *   - two calls that run at the same time do not share a table that either of them may write. Take a lock for each table.
  *
  * Words: K is the capacity in points. CA is a station's common address, 1 to 65,534; 65,535 in a command means every station. IOA is
