@@ -1,6 +1,7 @@
 -- What a command says to a table, and what that makes of the memories that are lent to the call: the common last step of every command.
 -- Document 01, 'Numbers given back': every number but 0 writes nothing anywhere; with 0, memory past the reported octets stays as it was.
 use Prim.Native.Nat.{ℕ}
+use mathlib.Core.Path.{_≡_}
 use mathlib.Core.List.{List, [], _∷_, _++_}
 use mathlib.Core.Bool.{Bool, true, false}
 use mathlib.Core.Option.{Option, none, some}
@@ -31,12 +32,15 @@ unsaid o t clock = record { outcome = o; answer = []; told = []; after = t; cloc
 abbrev pub says : List ℕ → Table → List ℕ → Said
 says answer t clock = record { outcome = Done; answer = answer; told = []; after = t; clock = clock }
 
--- The memories that are lent to a command.
+-- The memories that are lent to a call; one that is not lent is empty.
 pub record Lent : Type 0 where
   pub table : List ℕ
   pub clock : List ℕ
   pub answer : List ℕ
   pub spontaneous : List ℕ
+
+abbrev pub lent : List ℕ → List ℕ → List ℕ → List ℕ → Lent
+lent table clock answer spontaneous = record { table = table; clock = clock; answer = answer; spontaneous = spontaneous }
 
 -- A memory with octets at its front.
 abbrev pub fronted : List ℕ → List ℕ → List ℕ
@@ -80,3 +84,35 @@ answeredOn f l = answeredFrom f l (parse (l .table))
 -- The memories after it.
 abbrev pub lentAfter : (Table → Said) → Lent → Lent
 lentAfter f l = lentFrom f l (parse (l .table))
+
+-- What comes back, as the caller sees it, and what is left in every lent memory, where a call says f to a table.
+pub record Leaves {R : Type 0} (seen : Answered → R) (f : Table → Said) (before : Lent) (r : R) (after : Lent) : Type 0 where
+  pub answers : r ≡ seen (answeredOn f before)
+  pub leaves : after ≡ lentAfter f before
+
+-- An answer as it is.
+abbrev pub asItIs : Answered → Answered
+asItIs r = r
+
+-- ---- an answer that is written whole if it fits, and not at all if it does not
+
+-- A number other than 0: nothing is written.
+abbrev pub nothing : Outcome → Answered
+nothing o = record { outcome = o; octets = 0; spontaneous = 0 }
+
+-- An answer of so many octets.
+abbrev pub given : ℕ → Answered
+given n = record { outcome = Done; octets = n; spontaneous = 0 }
+
+-- What comes back.
+unfoldable pub sent : List ℕ → List ℕ → Answered
+sent octets memory = pick (fits octets memory) (given (length octets)) (nothing AnswerShort)
+
+-- What the answer memory holds.
+unfoldable pub left : List ℕ → List ℕ → List ℕ
+left octets memory = pick (fits octets memory) (fronted octets memory) memory
+
+-- Both together.
+pub record Sends (octets : List ℕ) (before : List ℕ) (r : Answered) (after : List ℕ) : Type 0 where
+  pub answers : r ≡ sent octets before
+  pub leaves : after ≡ left octets before

@@ -6,6 +6,7 @@ use mathlib.Core.Bool.{Bool, true, false}
 use lib.Dec.{eqb}
 use Rattle.limits.specs.Test.{pick}
 use Rattle.model.specs.declared.Point.{Point}
+use Rattle.table.specs.Table.{Table}
 use Rattle.report.specs.declared.Selection.{Selection}
 use Rattle.report.specs.declared.Selection.the-variants.{Every, Group, CounterGroup}
 
@@ -20,6 +21,10 @@ unfoldable pub interrogationTypes : List ℕ
 interrogationTypes =
     1 ∷ 2 ∷ 3 ∷ 4 ∷ 5 ∷ 6 ∷ 7 ∷ 9 ∷ 10 ∷ 11 ∷ 12 ∷ 13 ∷ 14 ∷ 15 ∷ 17 ∷ 18 ∷ 19 ∷ 20 ∷ 21
     ∷ 30 ∷ 31 ∷ 32 ∷ 33 ∷ 34 ∷ 35 ∷ 36 ∷ 37 ∷ 38 ∷ 39 ∷ 40 ∷ []
+
+-- The types of a global or group interrogation of a table.
+unfoldable pub interrogationTypesOf : Table → List ℕ
+interrogationTypesOf t = interrogationTypes
 
 -- The types of a counter interrogation.
 unfoldable pub counterTypes : List ℕ

@@ -5,3 +5,4 @@ pub mod Shares
 pub mod Cut
 pub mod Change
 pub mod Case
+pub mod Settings

@@ -1,0 +1,108 @@
+// The layout of a table's memory: a head, K places, the stations; the size of each, and where their numbers lie. Nothing else in the repository
+// knows these numbers.
+ghost use mathlib.Core.Path.{_≡_};
+ghost use Prim.Native.Nat.{_+_, _*_, _≤_, _<_};
+ghost use lib.ListN.{length};
+ghost use Rattle.layout.specs.Layout.{headSize, placeSize, stationSize, mostPlaces, mostStations, capacityIn, stationsIn, pointsIn, stationsFrom, heldAt, heldOffset};
+
+// ---- sizes, in octets
+
+pub const HEAD_SIZE: usize = 64;
+
+pub const PLACE_SIZE: usize = 48;
+
+pub const STATION_SIZE: usize = 8;
+
+// ---- the most of each
+
+pub const MOST_PLACES: usize = 4096;
+
+pub const MOST_STATIONS: usize = 64;
+
+// ---- in the head
+
+pub const CAPACITY_OFFSET: usize = 4;
+
+pub const STATIONS_OFFSET: usize = 6;
+
+pub const POINTS_OFFSET: usize = 8;
+
+// From here on the head is zero.
+pub const SPARE_OFFSET: usize = 10;
+
+pub const SPARE_SIZE: usize = 54;
+
+// ---- in a place
+
+pub const CA_OFFSET: usize = 1;
+
+pub const IOA_OFFSET: usize = 3;
+
+pub const GROUP_OFFSET: usize = 6;
+
+pub const COUNTER_OFFSET: usize = 8;
+
+pub const VALUE_OFFSET: usize = 10;
+
+// The octets of a value, those past its element included.
+pub const VALUE_SIZE: usize = 12;
+
+// ---- in a station
+
+pub const RESERVATION_OFFSET: usize = 2;
+
+pub const CEILING_OFFSET: usize = 4;
+
+pub const HELD_OFFSET: usize = 6;
+
+// ---- what a head says
+
+// K.
+pub fn capacity_of(m: &[u8]) -> usize
+    requires { ⌜ headSize ≤ length (now m) ⌝ }
+    ensures { λ r. ⌜ (r ≡ capacityIn (now (m .entry))) × (r < 65536) ⌝ }
+{
+    octets::two_at(m, CAPACITY_OFFSET)
+}
+
+// The number of stations.
+pub fn stations_of(m: &[u8]) -> usize
+    requires { ⌜ headSize ≤ length (now m) ⌝ }
+    ensures { λ r. ⌜ (r ≡ stationsIn (now (m .entry))) × (r < 65536) ⌝ }
+{
+    octets::two_at(m, STATIONS_OFFSET)
+}
+
+// The number of points.
+pub fn points_of(m: &[u8]) -> usize
+    requires { ⌜ headSize ≤ length (now m) ⌝ }
+    ensures { λ r. ⌜ (r ≡ pointsIn (now (m .entry))) × (r < 65536) ⌝ }
+{
+    octets::two_at(m, POINTS_OFFSET)
+}
+
+// ---- where places and stations lie
+
+// Place i of those from `first`.
+pub fn place_at(first: usize, i: usize) -> usize
+    requires { ⌜ (first ≤ 4294967296) × (i ≤ 4294967296) ⌝ }
+    ensures { λ r. ⌜ r ≡ first + placeSize * i ⌝ }
+{
+    first + PLACE_SIZE * i
+}
+
+// Station i.
+pub fn station_at(m: &[u8], i: usize) -> usize
+    requires { ⌜ (headSize ≤ length (now m)) × (i ≤ 65536) ⌝ }
+    ensures { λ r. ⌜ r ≡ stationsFrom (now (m .entry)) + stationSize * i ⌝ }
+{
+    HEAD_SIZE + PLACE_SIZE * capacity_of(m) + STATION_SIZE * i
+}
+
+// The held of the station at `at`.
+pub fn held_at(m: &[u8], at: usize) -> usize
+    requires { ⌜ at + stationSize ≤ length (now m) ⌝ }
+    ensures { λ r. ⌜ (r ≡ heldAt (now (m .entry)) at) × (r < 65536) ⌝ }
+{
+    octets::two_at(m, at + HELD_OFFSET)
+}
