@@ -18,24 +18,15 @@ use Rattle.table.specs.Memory.{tableOf, wellFormed, parse}
 use Rattle.table.proofs.Parse.{parse-some, parse-none}
 use Rattle.registry.specs.Effect.{holding}
 use Rattle.answers.specs.declared.Answered.{Answered}
-use Rattle.answers.specs.Said.{Said, Lent, fronted, outcomeWith, answeredFrom, lentFrom, answeredOn, lentAfter}
-
--- What an entry gives back and what it leaves, together.
-pub record Ends (f : Table → Said) (l : Lent) (r : Answered) (l′ : Lent) : Type 0 where
-  pub answers : r ≡ answeredOn f l
-  pub leaves : l′ ≡ lentAfter f l
+use Rattle.answers.specs.Said.{Said, Lent, fronted, outcomeWith, answeredFrom, lentFrom, answeredOn, lentAfter, Leaves, asItIs, nothing}
 
 -- What is written at the front of a memory, in the words of `octets` and of `Said`.
 pub front-is : (m xs : List ℕ) → over m 0 xs ≡ fronted xs m
 unfolding over
 front-is m xs = ap (λ (n : ℕ). xs ++ drop n m) (zero-add (length xs))
 
--- A number other than 0: nothing is written.
-abbrev pub nothing : Outcome → Answered
-nothing o = record { outcome = o; octets = 0; spontaneous = 0 }
-
 -- No table: 3.
-pub ends-no-table : (f : Table → Said) (l : Lent) → wellFormed (l .table) ≡ false → Ends f l (nothing TableNotWellFormed) l
+pub ends-no-table : (f : Table → Said) (l : Lent) → wellFormed (l .table) ≡ false → Leaves asItIs f l (nothing TableNotWellFormed) l
 unfolding answeredFrom lentFrom
 ends-no-table f l w =
     let p : parse (l .table) ≡ none = parse-none (l .table) w in
@@ -46,7 +37,7 @@ module _ (f : Table → Said) (l : Lent) (w : wellFormed (l .table) ≡ true) wh
   is-parsed = parse-some (l .table) w
 
   -- A number other than 0, of a table.
-  pub ends-nothing : (o : Outcome) → outcomeWith (f (tableOf (l .table))) l ≡ o → isDone o ≡ false → Ends f l (nothing o) l
+  pub ends-nothing : (o : Outcome) → outcomeWith (f (tableOf (l .table))) l ≡ o → isDone o ≡ false → Leaves asItIs f l (nothing o) l
   unfolding answeredFrom lentFrom
   ends-nothing o e d =
       let d′ : isDone (outcomeWith (f (tableOf (l .table))) l) ≡ false = ap isDone e ∙ d in
@@ -54,13 +45,13 @@ module _ (f : Table → Said) (l : Lent) (w : wellFormed (l .table) ≡ true) wh
       record { answers = sym (ap (answeredFrom f l) is-parsed ∙ r); leaves = sym (ap (lentFrom f l) is-parsed ∙ simp d′) }
 
   -- A refusal or silence of the command's own.
-  pub ends-refused : (o : Outcome) → f (tableOf (l .table)) .outcome ≡ o → isDone o ≡ false → Ends f l (nothing o) l
+  pub ends-refused : (o : Outcome) → f (tableOf (l .table)) .outcome ≡ o → isDone o ≡ false → Leaves asItIs f l (nothing o) l
   unfolding outcomeWith
   ends-refused o e d = ends-nothing o (let d′ : isDone (f (tableOf (l .table)) .outcome) ≡ false = ap isDone e ∙ d in simp d′ e) d
 
   -- An answer that does not fit: 4.
   pub ends-short : f (tableOf (l .table)) .outcome ≡ Done → f (tableOf (l .table)) .told ≡ [] → length (l .answer) < length (f (tableOf (l .table)) .answer)
-      → Ends f l (nothing AnswerShort) l
+      → Leaves asItIs f l (nothing AnswerShort) l
   unfolding outcomeWith
   ends-short e q h = ends-nothing AnswerShort (simp (e, q, le-leb 0 (length (l .spontaneous)) (omega arith), lt-leb _ _ h)) refl
 
@@ -79,7 +70,7 @@ module _ (f : Table → Said) (l : Lent) (w : wellFormed (l .table) ≡ true) wh
         answer = fronted (f (tableOf (l .table)) .answer) (l .answer);
         spontaneous = l .spontaneous;
       }
-      → Ends f l (record { outcome = Done; octets = n; spontaneous = 0 }) l′
+      → Leaves asItIs f l (record { outcome = Done; octets = n; spontaneous = 0 }) l′
   unfolding answeredFrom lentFrom
   ends-done n l′ e q k h s =
       let d : outcomeWith (f (tableOf (l .table))) l ≡ Done = fits-is e q (omega arith) in

@@ -11,6 +11,7 @@ use Rattle.limits.specs.Test.{_&_, pick}
 use Rattle.limits.specs.Outcome.{isDone}
 use Rattle.model.specs.declared.Point.{Point}
 use Rattle.table.specs.Table.{Station, Table, good, rising}
+use Rattle.table.specs.Settings.{limitOf}
 use Rattle.table.specs.Change.{stationOf, withPoints, changed, pointIn}
 use Rattle.table.proofs.Parse.{Good, good-is, is-good}
 use Rattle.table.proofs.Change.{Found, station-found, station-rises}
@@ -23,8 +24,10 @@ use Rattle.asdu.specs.declared.command.Reading.{Reading}
 use Rattle.asdu.specs.declared.command.Reading.the-variants.{LengthOutOfRange, TypeNotServed, ObjectsNotWhole, Parsed}
 use Rattle.report.specs.declared.Selection.{Selection}
 use Rattle.report.specs.Order.{pointsOf}
+use Rattle.answers.specs.declared.Choice.{Choice}
+use Rattle.answers.specs.declared.Choice.the-variants.{Selected, Denied}
 use Rattle.answers.specs.Said.{Said, Lent, outcomeWith}
-use Rattle.answers.specs.System.{chosen, choiceOf, qualifierOf, resetIn, resetAt, afterCounters, commandSaid, systemFrom, systemSaid, isSilent, interrogationType, countersType, readType, clockType, actionOf}
+use Rattle.answers.specs.System.{chosen, qualifierOf, resetIn, resetAt, resetBy, resets, afterCounters, commandSaid, systemFrom, systemSaid, isSilent, interrogationType, countersType, readType, clockType}
 use Rattle.answers.specs.Process.{Update, Proposal, updatesAt, updated, updateOf, replaceIn, tableWith, tableAfter, readUpdates, processCauseTaken, proposalOk, processFrom, processSaid}
 use Rattle.answers.proofs.Common.{effectIn}
 use Rattle.answers.proofs.Values.{reset-gentle, point-in, updated-ok, replace-gentle}
@@ -87,36 +90,40 @@ reset-still t ca sel = by-test (eqb ca globalAddress)
         }
     by-test false = still-here t ca (resetIn sel) (reset-gentle sel)
 
-counters-still : (t : Table) (ca q : ℕ) (o : Option Selection) → Still t (afterCounters t ca q o)
+choice-still : (t : Table) (ca : ℕ) (o : Choice) → Still t (resetBy t ca o)
+unfolding resetBy
+choice-still t ca Denied = still-same t
+choice-still t ca (Selected sel) = reset-still t ca sel
+
+counters-still : (t : Table) (ca q : ℕ) → Still t (afterCounters t ca q)
 unfolding afterCounters
-counters-still t ca q none = still-same t
-counters-still t ca q (some sel) = by-test (leb 2 (actionOf q))
+counters-still t ca q = by-test (resets q)
   where
-    by-test : (b : Bool) → Still t (pick b (resetAt t ca sel) t)
-    by-test true = reset-still t ca sel
+    by-test : (b : Bool) → Still t (pick b (resetBy t ca (chosen q)) t)
+    by-test true = choice-still t ca (chosen q)
     by-test false = still-same t
 
 pick-still : (t : Table) (b : Bool) (x y : Said) → Still t (x .after) → Still t (y .after) → Still t (pick b x y .after)
 pick-still t true x y p q = p
 pick-still t false x y p q = q
 
-command-still : (limit : ℕ) (clock m : List ℕ) (c : Command) (t : Table) → Still t (commandSaid limit clock m c t .after)
+command-still : (clock m : List ℕ) (c : Command) (t : Table) → Still t (commandSaid clock m c t .after)
 unfolding commandSaid
-command-still limit clock m c t =
+command-still clock m c t =
     pick-still t (eqb (c .kind) interrogationType) _ _ (still-same t)
-    (pick-still t (eqb (c .kind) countersType) _ _ (counters-still t (c .ca) (qualifierOf m) (chosen (choiceOf (qualifierOf m))))
+    (pick-still t (eqb (c .kind) countersType) _ _ (counters-still t (c .ca) (qualifierOf m))
     (pick-still t (eqb (c .kind) readType) _ _ (still-same t) (pick-still t (eqb (c .kind) clockType) _ _ (still-same t) (still-same t))))
 
-system-still : (limit : ℕ) (clock m : List ℕ) (r : Reading) (t : Table) → Still t (systemFrom limit clock m r t .after)
+system-still : (clock m : List ℕ) (r : Reading) (t : Table) → Still t (systemFrom clock m r t .after)
 unfolding systemFrom
-system-still limit clock m LengthOutOfRange t = still-same t
-system-still limit clock m TypeNotServed t = still-same t
-system-still limit clock m ObjectsNotWhole t = still-same t
-system-still limit clock m (Parsed c) t = pick-still t (isSilent c m) _ _ (still-same t) (command-still limit clock m c t)
+system-still clock m LengthOutOfRange t = still-same t
+system-still clock m TypeNotServed t = still-same t
+system-still clock m ObjectsNotWhole t = still-same t
+system-still clock m (Parsed c) t = pick-still t (isSilent c m) _ _ (still-same t) (command-still clock m c t)
 
 -- Every system command is quiet.
-pub system-quiet : (limit : ℕ) (m : List ℕ) (l : Lent) → Quiet (effectIn (systemSaid limit (l .clock) m) l)
-system-quiet limit m l = still-quiet (systemSaid limit (l .clock) m) l (λ t. system-still limit (l .clock) m _ t)
+pub system-quiet : (m : List ℕ) (l : Lent) → Quiet (effectIn (systemSaid (l .clock) m) l)
+system-quiet m l = still-quiet (systemSaid (l .clock) m) l (λ t. system-still (l .clock) m _ t)
 
 -- ---- process commands
 
@@ -173,16 +180,16 @@ read-whole p w = by-test (p .negative)
     by-test true = tt
     by-test false = w
 
-process-still : (limit : ℕ) (p : Proposal) → AllWhole (p .updates) → (r : Reading) (t : Table) → Still t (processFrom limit p r t .after)
+process-still : (p : Proposal) → AllWhole (p .updates) → (r : Reading) (t : Table) → Still t (processFrom p r t .after)
 unfolding processFrom
-process-still limit p w LengthOutOfRange t = still-same t
-process-still limit p w TypeNotServed t = still-same t
-process-still limit p w ObjectsNotWhole t = still-same t
-process-still limit p w (Parsed c) t =
+process-still p w LengthOutOfRange t = still-same t
+process-still p w TypeNotServed t = still-same t
+process-still p w ObjectsNotWhole t = still-same t
+process-still p w (Parsed c) t =
     pick-still t (processCauseTaken (c .cause)) _ _
-    (pick-still t (proposalOk limit (p .kind) (p .objects)) _ _ (updates-still t (readUpdates p) (read-whole p w)) (still-same t))
+    (pick-still t (proposalOk (limitOf t) (p .kind) (p .objects)) _ _ (updates-still t (readUpdates p) (read-whole p w)) (still-same t))
     (still-same t)
 
 -- Every process command is quiet.
-pub process-quiet : (limit : ℕ) (p : Proposal) → AllWhole (p .updates) → (m : List ℕ) (l : Lent) → Quiet (effectIn (processSaid limit p m) l)
-process-quiet limit p w m l = still-quiet (processSaid limit p m) l (λ t. process-still limit p w _ t)
+pub process-quiet : (p : Proposal) → AllWhole (p .updates) → (m : List ℕ) (l : Lent) → Quiet (effectIn (processSaid p m) l)
+process-quiet p w m l = still-quiet (processSaid p m) l (λ t. process-still p w _ t)

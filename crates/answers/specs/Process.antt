@@ -13,6 +13,7 @@ use Rattle.octets.specs.Number.{two, three, twelve}
 use Rattle.model.specs.declared.Point.{Point}
 use Rattle.model.specs.Request.{element}
 use Rattle.table.specs.Table.{Station, Table}
+use Rattle.table.specs.Settings.{limitOf}
 use Rattle.table.specs.Change.{stationOf, changed, pointIn}
 use Rattle.asdu.specs.Cause.{request, activation, activationConfirmation, deactivation, deactivationConfirmation}
 use Rattle.asdu.specs.declared.command.Command.{Command}
@@ -107,17 +108,17 @@ abbrev pub processReply : Command → Proposal → List ℕ
 processReply c p =
     reply c (p .kind) (length (p .objects) / (addressOctets + elementOctets (p .kind))) (confirmationCause (c .cause)) (p .negative) (p .objects)
 
-unfoldable pub processFrom : ℕ → Proposal → Reading → Table → Said
-processFrom limit p LengthOutOfRange t = unsaid (outcomeOf LengthOutOfRange) t []
-processFrom limit p TypeNotServed t = unsaid (outcomeOf TypeNotServed) t []
-processFrom limit p ObjectsNotWhole t = unsaid (outcomeOf ObjectsNotWhole) t []
-processFrom limit p (Parsed c) t =
+unfoldable pub processFrom : Proposal → Reading → Table → Said
+processFrom p LengthOutOfRange t = unsaid (outcomeOf LengthOutOfRange) t []
+processFrom p TypeNotServed t = unsaid (outcomeOf TypeNotServed) t []
+processFrom p ObjectsNotWhole t = unsaid (outcomeOf ObjectsNotWhole) t []
+processFrom p (Parsed c) t =
     pick (processCauseTaken (c .cause))
-    (pick (proposalOk limit (p .kind) (p .objects))
+    (pick (proposalOk (limitOf t) (p .kind) (p .objects))
     (record { outcome = Done; answer = processReply c p; told = toldBy t (readUpdates p); after = tableAfter t (readUpdates p); clock = [] })
     (unsaid BadProposal t []))
     (unsaid Silent t [])
 
 -- What a process command says to a table.
-abbrev pub processSaid : ℕ → Proposal → List ℕ → Table → Said
-processSaid limit p m t = processFrom limit p (readAs limit ProcessCommands m) t
+abbrev pub processSaid : Proposal → List ℕ → Table → Said
+processSaid p m t = processFrom p (readAs (limitOf t) ProcessCommands m) t

@@ -14,6 +14,7 @@ use Rattle.octets.specs.Number.{three}
 use Rattle.model.specs.declared.Point.{Point}
 use Rattle.model.specs.Place.{isCounter}
 use Rattle.table.specs.Table.{Station, Table}
+use Rattle.table.specs.Settings.{limitOf}
 use Rattle.table.specs.Change.{stationOf, withPoints, changed, pointIn}
 use Rattle.asdu.specs.Cause.{request, activation, activationConfirmation, activationTermination, interrogation, counterInterrogation}
 use Rattle.asdu.specs.Header.{globalAddress}
@@ -26,10 +27,12 @@ use Rattle.asdu.specs.Confirmation.{confirmation, echo}
 use Rattle.report.specs.declared.Selection.{Selection}
 use Rattle.report.specs.declared.Selection.the-variants.{Every, Group, CounterGroup}
 use Rattle.report.specs.Packing.{selected, joined}
-use Rattle.report.specs.Selection.{selects, interrogationTypes, counterTypes}
+use Rattle.report.specs.Selection.{selects, interrogationTypesOf, counterTypes}
 use Rattle.report.specs.Report.{report}
 use Rattle.report.specs.Order.{pointsFor, pointsOf}
 use Rattle.report.specs.Single.{requestedAsdu}
+use Rattle.answers.specs.declared.Choice.{Choice}
+use Rattle.answers.specs.declared.Choice.the-variants.{Selected, Denied}
 use Rattle.answers.specs.Said.{Said, unsaid, says}
 
 -- The types of the system commands.
@@ -74,41 +77,45 @@ abbrev pub terminated : Command → List ℕ → List ℕ
 terminated c m = confirmation c m activationTermination false
 
 -- The report of the selected points between confirmation and termination: data keep the command's CA.
-unfoldable pub reported : ℕ → Command → List ℕ → List ℕ → ℕ → Selection → List Station → List ℕ
-reported limit c m types cause sel ss =
-    confirmed c m ++ (report limit types cause (c .ca) (selected (selects sel) (pointsFor (c .ca) ss)) ++ terminated c m)
+unfoldable pub reported : Table → Command → List ℕ → List ℕ → ℕ → Selection → List ℕ
+reported t c m types cause sel =
+    confirmed c m ++ (report (limitOf t) types cause (c .ca) (selected (selects sel) (pointsFor (c .ca) (t .stations))) ++ terminated c m)
+
+-- What a choice is answered by: its report, or one negative confirmation.
+unfoldable pub answerTo : Table → Command → List ℕ → List ℕ → ℕ → Choice → List ℕ
+answerTo t c m types cause Denied = denied c m
+answerTo t c m types cause (Selected sel) = reported t c m types cause sel
 
 -- ---- interrogation
 
 -- Qualifier 20 selects all points, 21 to 36 those of group 1 to 16; any other selects nothing.
-abbrev pub interrogated : ℕ → Option Selection
-interrogated q = pick (eqb q interrogation) (some Every) (pick (leb 21 q & leb q 36) (some (Group (q - interrogation))) none)
+abbrev pub interrogated : ℕ → Choice
+interrogated q = pick (eqb q interrogation) (Selected Every) (pick (leb 21 q & leb q 36) (Selected (Group (q - interrogation))) Denied)
 
--- Confirmation, data with the qualifier as cause, termination; or one negative confirmation.
-unfoldable pub interrogationAnswer : ℕ → Command → List ℕ → Option Selection → List Station → List ℕ
-interrogationAnswer limit c m none ss = denied c m
-interrogationAnswer limit c m (some sel) ss = reported limit c m interrogationTypes (qualifierOf m) sel ss
+-- Data have the qualifier as cause.
+unfoldable pub interrogationAnswer : Command → List ℕ → Table → List ℕ
+interrogationAnswer c m t = answerTo t c m (interrogationTypesOf t) (qualifierOf m) (interrogated (qualifierOf m))
 
 -- ---- counters
 
--- Bits 0 to 5 choose: 5 all, 1 to 4 a group.
+-- Bits 0 to 5 of the qualifier.
 abbrev pub choiceOf : ℕ → ℕ
 choiceOf q = q % 64
 
--- Bits 6 and 7 act: 0 read, 1 freeze, 2 freeze and reset, 3 reset.
-abbrev pub actionOf : ℕ → ℕ
-actionOf q = q / 64
+-- They choose: 5 all, 1 to 4 a group; any other chooses nothing.
+abbrev pub chosen : ℕ → Choice
+chosen q = pick (eqb (choiceOf q) 5) (Selected Every) (pick (leb 1 (choiceOf q) & leb (choiceOf q) 4) (Selected (CounterGroup (choiceOf q))) Denied)
 
-abbrev pub chosen : ℕ → Option Selection
-chosen choice = pick (eqb choice 5) (some Every) (pick (leb 1 choice & leb choice 4) (some (CounterGroup choice)) none)
+-- Bits 6 and 7 act: 0 read, 1 freeze, 2 freeze and reset, 3 reset. Actions 2 and 3 reset.
+abbrev pub resets : ℕ → Bool
+resets q = leb 2 (q / 64)
 
 -- Data have cause 37 for all, 37 + group for a group.
 abbrev pub counterCause : ℕ → ℕ
-counterCause choice = pick (eqb choice 5) counterInterrogation (counterInterrogation + choice)
+counterCause q = pick (eqb (choiceOf q) 5) counterInterrogation (counterInterrogation + choiceOf q)
 
-unfoldable pub counterAnswer : ℕ → Command → List ℕ → Option Selection → List Station → List ℕ
-counterAnswer limit c m none ss = denied c m
-counterAnswer limit c m (some sel) ss = reported limit c m counterTypes (counterCause (choiceOf (qualifierOf m))) sel ss
+unfoldable pub counterAnswer : Command → List ℕ → Table → List ℕ
+counterAnswer c m t = answerTo t c m counterTypes (counterCause (qualifierOf m)) (chosen (qualifierOf m))
 
 -- A counter's reading, its first four octets, set to 0; the rest stays.
 abbrev pub zeroed : Point → Point
@@ -123,10 +130,14 @@ unfoldable pub resetAt : Table → ℕ → Selection → Table
 resetAt t ca sel =
     pick (eqb ca globalAddress) (record { capacity = t .capacity; stations = map (withPoints (resetIn sel)) (t .stations) }) (changed t ca (resetIn sel))
 
--- Actions 2 and 3 reset the reported counters; 0 and 1, and a choice that is denied, change nothing.
-unfoldable pub afterCounters : Table → ℕ → ℕ → Option Selection → Table
-afterCounters t ca q none = t
-afterCounters t ca q (some sel) = pick (leb 2 (actionOf q)) (resetAt t ca sel) t
+-- A choice that is denied resets nothing.
+unfoldable pub resetBy : Table → ℕ → Choice → Table
+resetBy t ca Denied = t
+resetBy t ca (Selected sel) = resetAt t ca sel
+
+-- Actions 2 and 3 reset the reported counters; 0 and 1 change nothing.
+unfoldable pub afterCounters : Table → ℕ → ℕ → Table
+afterCounters t ca q = pick (resets q) (resetBy t ca (chosen q)) t
 
 -- ---- read
 
@@ -145,6 +156,10 @@ pointsAsked (a ∷ as′) ps = also (pointIn a ps) (pointsAsked as′ ps)
     also (some p) none = none
     also (some p) (some rest) = some (p ∷ rest)
 
+-- The points that a read command asks its station for.
+abbrev pub pointsRead : Command → List ℕ → Table → Option (List Point)
+pointsRead c m t = pointsAsked (addressesIn m headerOctets (c .count)) (pointsOf (stationOf (c .ca) (t .stations)))
+
 -- The echo of all objects, negative where an address is missing; else one ASDU for each object, cause 5.
 unfoldable pub readAnswer : Command → List ℕ → Option (List Point) → List ℕ
 readAnswer c m none = echo c m activationConfirmation true
@@ -159,28 +174,21 @@ clockFrom m = take 7 (drop (headerOctets + addressOctets) m) ++ (1 ∷ [])
 -- ---- the command
 
 -- What a command that is not silent says, by its type.
-unfoldable pub commandSaid : ℕ → List ℕ → List ℕ → Command → Table → Said
-commandSaid limit clock m c t =
-    pick (eqb (c .kind) interrogationType) (says (interrogationAnswer limit c m (interrogated (qualifierOf m)) (t .stations)) t clock)
+unfoldable pub commandSaid : List ℕ → List ℕ → Command → Table → Said
+commandSaid clock m c t =
+    pick (eqb (c .kind) interrogationType) (says (interrogationAnswer c m t) t clock)
     (pick (eqb (c .kind) countersType)
-    (record {
-      outcome = Done;
-      answer = counterAnswer limit c m (chosen (choiceOf (qualifierOf m))) (t .stations);
-      told = [];
-      after = afterCounters t (c .ca) (qualifierOf m) (chosen (choiceOf (qualifierOf m)));
-      clock = clock;
-    })
-    (pick (eqb (c .kind) readType)
-    (says (readAnswer c m (pointsAsked (addressesIn m headerOctets (c .count)) (pointsOf (stationOf (c .ca) (t .stations))))) t clock)
+    (record { outcome = Done; answer = counterAnswer c m t; told = []; after = afterCounters t (c .ca) (qualifierOf m); clock = clock })
+    (pick (eqb (c .kind) readType) (says (readAnswer c m (pointsRead c m t)) t clock)
     (pick (eqb (c .kind) clockType) (says (echo c m activationConfirmation false) t (clockFrom m)) (says (echo c m activationConfirmation false) t clock))))
 
 -- The order of the tests: malformed or not served; silent; then the command's own answer.
-unfoldable pub systemFrom : ℕ → List ℕ → List ℕ → Reading → Table → Said
-systemFrom limit clock m LengthOutOfRange t = unsaid (outcomeOf LengthOutOfRange) t clock
-systemFrom limit clock m TypeNotServed t = unsaid (outcomeOf TypeNotServed) t clock
-systemFrom limit clock m ObjectsNotWhole t = unsaid (outcomeOf ObjectsNotWhole) t clock
-systemFrom limit clock m (Parsed c) t = pick (isSilent c m) (unsaid Silent t clock) (commandSaid limit clock m c t)
+unfoldable pub systemFrom : List ℕ → List ℕ → Reading → Table → Said
+systemFrom clock m LengthOutOfRange t = unsaid (outcomeOf LengthOutOfRange) t clock
+systemFrom clock m TypeNotServed t = unsaid (outcomeOf TypeNotServed) t clock
+systemFrom clock m ObjectsNotWhole t = unsaid (outcomeOf ObjectsNotWhole) t clock
+systemFrom clock m (Parsed c) t = pick (isSilent c m) (unsaid Silent t clock) (commandSaid clock m c t)
 
 -- What a system command says to a table.
-abbrev pub systemSaid : ℕ → List ℕ → List ℕ → Table → Said
-systemSaid limit clock m t = systemFrom limit clock m (readAs limit SystemCommands m) t
+abbrev pub systemSaid : List ℕ → List ℕ → Table → Said
+systemSaid clock m t = systemFrom clock m (readAs (limitOf t) SystemCommands m) t

@@ -1,5 +1,6 @@
 // What every command says: definitions and their laws. The code that says it stands in `rtu_server`.
 use limits::outcome::Outcome;
+use report::Selection;
 ghost use mathlib.Core.Path.{_≡_};
 ghost use Rattle.answers.specs.Said.{nothing, given};
 
@@ -8,6 +9,12 @@ pub struct Answered {
     pub outcome: Outcome,
     pub octets: usize,
     pub spontaneous: usize,
+}
+
+// What a qualifier chooses: the points of a selection, or nothing that there is, which is denied.
+pub enum Choice {
+    Selected(Selection),
+    Denied,
 }
 
 impl Answered {
