@@ -21,16 +21,23 @@ pub const MOST_STATIONS: usize = 64;
 
 // ---- in the head
 
+// The first octets of every table, 4B 48 56 01, as a number.
+pub const MARK: usize = 22431819;
+
 pub const CAPACITY_OFFSET: usize = 4;
 
 pub const STATIONS_OFFSET: usize = 6;
 
 pub const POINTS_OFFSET: usize = 8;
 
-// From here on the head is zero.
-pub const SPARE_OFFSET: usize = 10;
+pub const SETTINGS_OFFSET: usize = 10;
 
-pub const SPARE_SIZE: usize = 54;
+pub const SETTINGS_SIZE: usize = 4;
+
+// From here on the head is zero.
+pub const SPARE_OFFSET: usize = 14;
+
+pub const SPARE_SIZE: usize = 50;
 
 // ---- in a place
 
@@ -46,6 +53,11 @@ pub const VALUE_OFFSET: usize = 10;
 
 // The octets of a value, those past its element included.
 pub const VALUE_SIZE: usize = 12;
+
+// From here on a place is zero.
+pub const REST_OFFSET: usize = 22;
+
+pub const REST_SIZE: usize = 26;
 
 // ---- in a station
 

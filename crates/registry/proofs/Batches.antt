@@ -19,7 +19,7 @@ use Rattle.model.specs.declared.Request.{Request}
 use Rattle.model.specs.Place.{pointOk}
 use Rattle.model.specs.Request.{ownFault, pointOf}
 use Rattle.table.specs.Table.{Station, Table, shareOf}
-use Rattle.table.specs.Change.{stationOf, inStation, withPoints, changed, known, insertIn, added}
+use Rattle.table.specs.Change.{stationOf, inStation, withPoints, withStations, changed, known, insertIn, added}
 use Rattle.table.proofs.Parse.{Good}
 use Rattle.table.proofs.Change.{changed-station, other-station, known-insert}
 use Rattle.registry.specs.Effect.{Effect, firstFault}
@@ -98,7 +98,7 @@ unfolding added changed isPlanned isRegistered _&_ pointOf
 passes-like t q r s e x p = by-test (eqb (q .ca) (r .ca)) refl x
   where
     by-test : (b : Bool) → eqb (q .ca) (r .ca) ≡ b → (b & eqb (q .ioa) (r .ioa)) ≡ false
-        → Passes (record { capacity = t .capacity; stations = inStation (q .ca) (withPoints (insertIn (pointOf q))) (t .stations) }) r
+        → Passes (withStations (inStation (q .ca) (withPoints (insertIn (pointOf q))) (t .stations)) t) r
     by-test true b x′ =
         let c : q .ca ≡ r .ca = eqb-true _ _ b in
         let old : stationOf (r .ca) (t .stations) ≡ some s = rw (← c) e in

@@ -124,6 +124,7 @@ good-changed t ca f s w g r sound =
     let high : length (t .stations) ≤ 64 = g .s-high in
     let few = shares-of _ _ _ _ (n .1) .1 in
     record {
+      settings = g .settings;
       k-low = g .k-low;
       k-high = g .k-high;
       s-low = rw e (omega arith);
@@ -305,6 +306,7 @@ good-emptied t g =
     let low : 1 ≤ length (t .stations) = g .s-low in
     let high : length (t .stations) ≤ 64 = g .s-high in
     record {
+      settings = g .settings;
       k-low = g .k-low;
       k-high = g .k-high;
       s-low = omega arith;
