@@ -13,17 +13,19 @@ use Rattle.limits.specs.Outcome.{isDone}
 use Rattle.limits.specs.declared.outcome.Outcome.{Outcome}
 use Rattle.limits.specs.declared.outcome.Outcome.the-variants.{Done, TableNotWellFormed, AnswerShort}
 use Rattle.octets.specs.Over.{over}
+use Rattle.asdu.specs.Header.{Asdu, wire}
+use Rattle.asdu.specs.Joined.{joined}
 use Rattle.table.specs.Table.{Table}
 use Rattle.table.specs.Memory.{tableOf, wellFormed, parse}
 use Rattle.table.proofs.Parse.{parse-some, parse-none}
 use Rattle.registry.specs.Effect.{holding}
 use Rattle.answers.specs.declared.Answered.{Answered}
-use Rattle.answers.specs.Said.{Said, Lent, fronted, outcomeWith, answeredFrom, lentFrom, answeredOn, lentAfter, Leaves, asItIs, nothing}
+use Rattle.answers.specs.Said.{Said, Lent, size, fronted, outcomeWith, answeredFrom, lentFrom, answeredOn, lentAfter, Leaves, asItIs, nothing}
 
 -- What is written at the front of a memory, in the words of `octets` and of `Said`.
-pub front-is : (m xs : List ℕ) → over m 0 xs ≡ fronted xs m
+pub front-is : (m : List ℕ) (xs : List Asdu) → over m 0 (wire xs) ≡ fronted xs m
 unfolding over
-front-is m xs = ap (λ (n : ℕ). xs ++ drop n m) (zero-add (length xs))
+front-is m xs = ap (λ (n : ℕ). wire xs ++ drop n m) (zero-add (size xs))
 
 -- No table: 3.
 pub ends-no-table : (f : Table → Said) (l : Lent) → wellFormed (l .table) ≡ false → Leaves asItIs f l (nothing TableNotWellFormed) l
@@ -50,20 +52,20 @@ module _ (f : Table → Said) (l : Lent) (w : wellFormed (l .table) ≡ true) wh
   ends-refused o e d = ends-nothing o (let d′ : isDone (f (tableOf (l .table)) .outcome) ≡ false = ap isDone e ∙ d in simp d′ e) d
 
   -- An answer that does not fit: 4.
-  pub ends-short : f (tableOf (l .table)) .outcome ≡ Done → f (tableOf (l .table)) .told ≡ [] → length (l .answer) < length (f (tableOf (l .table)) .answer)
+  pub ends-short : f (tableOf (l .table)) .outcome ≡ Done → f (tableOf (l .table)) .told ≡ [] → length (l .answer) < size (f (tableOf (l .table)) .answer)
       → Leaves asItIs f l (nothing AnswerShort) l
-  unfolding outcomeWith
+  unfolding outcomeWith wire joined
   ends-short e q h = ends-nothing AnswerShort (simp (e, q, le-leb 0 (length (l .spontaneous)) (omega arith), lt-leb _ _ h)) refl
 
   -- the outcome of an answer that fits
-  fits-is : f (tableOf (l .table)) .outcome ≡ Done → f (tableOf (l .table)) .told ≡ [] → length (f (tableOf (l .table)) .answer) ≤ length (l .answer)
+  fits-is : f (tableOf (l .table)) .outcome ≡ Done → f (tableOf (l .table)) .told ≡ [] → size (f (tableOf (l .table)) .answer) ≤ length (l .answer)
       → outcomeWith (f (tableOf (l .table))) l ≡ Done
-  unfolding outcomeWith
+  unfolding outcomeWith wire joined
   fits-is e q h = simp (e, q, le-leb 0 (length (l .spontaneous)) (omega arith), le-leb _ _ h)
 
   -- An answer that fits, n octets of it, from a command that tells nothing.
   pub ends-done : (n : ℕ) (l′ : Lent) → f (tableOf (l .table)) .outcome ≡ Done → f (tableOf (l .table)) .told ≡ []
-      → n ≡ length (f (tableOf (l .table)) .answer) → n ≤ length (l .answer)
+      → n ≡ size (f (tableOf (l .table)) .answer) → n ≤ length (l .answer)
       → l′ ≡ record {
         table = holding (l .table) (tableOf (l .table)) (f (tableOf (l .table)) .after);
         clock = f (tableOf (l .table)) .clock;
@@ -71,7 +73,7 @@ module _ (f : Table → Said) (l : Lent) (w : wellFormed (l .table) ≡ true) wh
         spontaneous = l .spontaneous;
       }
       → Leaves asItIs f l (record { outcome = Done; octets = n; spontaneous = 0 }) l′
-  unfolding answeredFrom lentFrom
+  unfolding answeredFrom lentFrom wire joined
   ends-done n l′ e q k h s =
       let d : outcomeWith (f (tableOf (l .table))) l ≡ Done = fits-is e q (omega arith) in
       record {

@@ -12,7 +12,7 @@ use Rattle.limits.specs.Outcome.{isDone}
 use Rattle.model.specs.declared.Point.{Point}
 use Rattle.table.specs.Table.{Station, Table, good, rising}
 use Rattle.table.specs.Settings.{limitOf}
-use Rattle.table.specs.Change.{stationOf, withPoints, changed, pointIn}
+use Rattle.table.specs.Change.{stationOf, withPoints, withStations, changed, pointIn}
 use Rattle.table.proofs.Parse.{Good, good-is, is-good}
 use Rattle.table.proofs.Change.{Found, station-found, station-rises}
 use Rattle.registry.specs.Effect.{Effect, next}
@@ -27,7 +27,7 @@ use Rattle.report.specs.Order.{pointsOf}
 use Rattle.answers.specs.declared.Choice.{Choice}
 use Rattle.answers.specs.declared.Choice.the-variants.{Selected, Denied}
 use Rattle.answers.specs.Said.{Said, Lent, outcomeWith}
-use Rattle.answers.specs.System.{chosen, qualifierOf, resetIn, resetAt, resetBy, resets, afterCounters, commandSaid, systemFrom, systemSaid, isSilent, interrogationType, countersType, readType, clockType}
+use Rattle.answers.specs.System.{chosen, qualifierOf, resetIn, resetAt, resetBy, resets, afterCounters, commandSaid, systemFrom, systemSaid, isSilent, interrogationType, countersType, readType}
 use Rattle.answers.specs.Process.{Update, Proposal, updatesAt, updated, updateOf, replaceIn, tableWith, tableAfter, readUpdates, processCauseTaken, proposalOk, processFrom, processSaid}
 use Rattle.answers.proofs.Common.{effectIn}
 use Rattle.answers.proofs.Values.{reset-gentle, point-in, updated-ok, replace-gentle}
@@ -81,7 +81,7 @@ reset-still : (t : Table) (ca : ℕ) (sel : Selection) → Still t (resetAt t ca
 unfolding resetAt
 reset-still t ca sel = by-test (eqb ca globalAddress)
   where
-    by-test : (b : Bool) → Still t (pick b (record { capacity = t .capacity; stations = map (withPoints (resetIn sel)) (t .stations) }) (changed t ca (resetIn sel)))
+    by-test : (b : Bool) → Still t (pick b (withStations (map (withPoints (resetIn sel)) (t .stations)) t) (changed t ca (resetIn sel)))
     by-test true =
         record {
           capacity = refl;
@@ -112,7 +112,7 @@ unfolding commandSaid
 command-still clock m c t =
     pick-still t (eqb (c .kind) interrogationType) _ _ (still-same t)
     (pick-still t (eqb (c .kind) countersType) _ _ (counters-still t (c .ca) (qualifierOf m))
-    (pick-still t (eqb (c .kind) readType) _ _ (still-same t) (pick-still t (eqb (c .kind) clockType) _ _ (still-same t) (still-same t))))
+    (pick-still t (eqb (c .kind) readType) _ _ (still-same t) (still-same t)))
 
 system-still : (clock m : List ℕ) (r : Reading) (t : Table) → Still t (systemFrom clock m r t .after)
 unfolding systemFrom

@@ -11,6 +11,7 @@ use Rattle.limits.specs.declared.outcome.Outcome.{Outcome}
 use Rattle.limits.specs.declared.outcome.Outcome.the-variants.{Done, Silent, BadProposal}
 use Rattle.octets.specs.Number.{two, three, twelve}
 use Rattle.model.specs.declared.Point.{Point}
+use Rattle.model.specs.Place.{withValue}
 use Rattle.model.specs.Request.{element}
 use Rattle.table.specs.Table.{Station, Table}
 use Rattle.table.specs.Settings.{limitOf}
@@ -21,7 +22,8 @@ use Rattle.asdu.specs.declared.command.Entry.the-variants.{ProcessCommands}
 use Rattle.asdu.specs.declared.command.Reading.{Reading}
 use Rattle.asdu.specs.declared.command.Reading.the-variants.{LengthOutOfRange, TypeNotServed, ObjectsNotWhole, Parsed}
 use Rattle.asdu.specs.Command.{readAs, outcomeOf, isProcess}
-use Rattle.asdu.specs.Confirmation.{reply}
+use Rattle.asdu.specs.Header.{Asdu}
+use Rattle.asdu.specs.Confirmation.{reply, objectsOf}
 use Rattle.report.specs.Order.{pointsOf}
 use Rattle.report.specs.Single.{spontaneousAsdu}
 use Rattle.answers.specs.Said.{Said, unsaid}
@@ -64,7 +66,7 @@ unfoldable pub updated : Update → Option Point → Option Point
 updated u none = none
 updated u (some p) =
     pick (eqb (p .kind) (u .kind))
-    (some (record { kind = p .kind; ioa = p .ioa; group = p .group; counter = p .counter; value = element (pointOctets (p .kind)) (u .value) }))
+    (some (withValue (element (pointOctets (p .kind)) (u .value)) p))
     none
 
 -- A point in place of the one with its IOA.
@@ -76,9 +78,9 @@ unfoldable pub tableWith : Table → Update → Option Point → Table
 tableWith t u none = t
 tableWith t u (some p) = changed t (u .ca) (replaceIn p)
 
-unfoldable pub toldOf : Update → Option Point → List ℕ
+unfoldable pub toldOf : Update → Option Point → List Asdu
 toldOf u none = []
-toldOf u (some p) = spontaneousAsdu (u .ca) p
+toldOf u (some p) = spontaneousAsdu (u .ca) p ∷ []
 
 -- The new value of a point by an update of a table.
 abbrev pub updateOf : Table → Update → Option Point
@@ -89,7 +91,7 @@ unfoldable pub tableAfter : Table → List Update → Table
 tableAfter t [] = t
 tableAfter t (u ∷ us) = tableAfter (tableWith t u (updateOf t u)) us
 
-unfoldable pub toldBy : Table → List Update → List ℕ
+unfoldable pub toldBy : Table → List Update → List Asdu
 toldBy t [] = []
 toldBy t (u ∷ us) = toldOf u (updateOf t u) ++ toldBy (tableWith t u (updateOf t u)) us
 
@@ -104,9 +106,8 @@ abbrev pub confirmationCause : ℕ → ℕ
 confirmationCause cause = pick (eqb cause deactivation) deactivationConfirmation activationConfirmation
 
 -- The confirmation: the reply's type and objects; originator, CA and test of the command; negative as proposed.
-abbrev pub processReply : Command → Proposal → List ℕ
-processReply c p =
-    reply c (p .kind) (length (p .objects) / (addressOctets + elementOctets (p .kind))) (confirmationCause (c .cause)) (p .negative) (p .objects)
+abbrev pub processReply : Command → Proposal → Asdu
+processReply c p = reply c (p .kind) (confirmationCause (c .cause)) (p .negative) (objectsOf (elementOctets (p .kind)) (p .objects))
 
 unfoldable pub processFrom : Proposal → Reading → Table → Said
 processFrom p LengthOutOfRange t = unsaid (outcomeOf LengthOutOfRange) t []
@@ -115,7 +116,7 @@ processFrom p ObjectsNotWhole t = unsaid (outcomeOf ObjectsNotWhole) t []
 processFrom p (Parsed c) t =
     pick (processCauseTaken (c .cause))
     (pick (proposalOk (limitOf t) (p .kind) (p .objects))
-    (record { outcome = Done; answer = processReply c p; told = toldBy t (readUpdates p); after = tableAfter t (readUpdates p); clock = [] })
+    (record { outcome = Done; answer = processReply c p ∷ []; told = toldBy t (readUpdates p); after = tableAfter t (readUpdates p); clock = [] })
     (unsaid BadProposal t []))
     (unsaid Silent t [])
 
