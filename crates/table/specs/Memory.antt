@@ -39,9 +39,13 @@ sumAt f m sb (suc n) = f m sb + sumAt f m (sb + stationSize) n
 abbrev pub unmetAt : List ℕ → ℕ → ℕ
 unmetAt m sb = reservationAt m sb - heldAt m sb
 
+-- the test of the numbers of the station at `sb`
+abbrev pub numbersAt : List ℕ → ℕ → ℕ → ℕ → Bool
+numbersAt m k low sb = numbersOk k low (caAt m sb) (reservationAt m sb) (ceilingAt m sb) (heldAt m sb)
+
 unfoldable pub planAt : List ℕ → ℕ → ℕ → ℕ → ℕ → Bool
 planAt m k low sb zero = true
-planAt m k low sb (suc n) = numbersOk k low (caAt m sb) (reservationAt m sb) (ceilingAt m sb) (heldAt m sb) & planAt m k (caAt m sb + 1) (sb + stationSize) n
+planAt m k low sb (suc n) = numbersAt m k low sb & planAt m k (caAt m sb + 1) (sb + stationSize) n
 
 -- the places of n stations
 unfoldable pub bodiesAt : List ℕ → ℕ → ℕ → ℕ → Bool
