@@ -15,11 +15,11 @@ use Rattle.model.specs.declared.Point.{Point}
 abbrev pub integratedTotals : ℕ
 integratedTotals = 15
 
-abbrev pub integratedTotalsTimed : ℕ
-integratedTotalsTimed = 37
+abbrev pub timedIntegratedTotals : ℕ
+timedIntegratedTotals = 37
 
 abbrev pub isCounter : ℕ → Bool
-isCounter kind = eqb kind integratedTotals || eqb kind integratedTotalsTimed
+isCounter kind = eqb kind integratedTotals || eqb kind timedIntegratedTotals
 
 -- The highest IOA, the number of interrogation groups, and that of counter groups.
 abbrev pub highestIoa : ℕ

@@ -17,7 +17,7 @@ use Rattle.limits.proofs.Tests.{both, join, total-append}
 use Rattle.limits.proofs.Shares.{admitted-only, take-in-keeps-sound, let-go-keeps-sound, fresh-plan-sound, nothingHeld, reservationOf}
 use Rattle.model.specs.declared.Point.{Point}
 use Rattle.model.specs.Place.{pointOk}
-use Rattle.table.specs.Table.{Station, Table, held, shareOf, reserved, rising, allRising, good}
+use Rattle.table.specs.Table.{Station, Table, highestCa, held, shareOf, reserved, rising, allRising, good}
 use Rattle.table.specs.Change.{stationOf, inStation, withPoints, changed, seekIn, known, insertIn, removeIn, added, removed, emptied}
 use Rattle.table.proofs.Parse.{Good, is-good}
 use Rattle.table.proofs.Shares.{planned, plan-of, shares-of, sound-numbers, good-sound, map-append}
@@ -78,7 +78,7 @@ plan-with : (k low : ℕ) (before : List Station) (s : Station) (after : List St
 unfolding planned
 plan-with k low [] s after f = refl
 plan-with k low (x ∷ before) s after f =
-    ap (λ (b : Bool). leb low (x .ca) & leb (x .ca) 65534 & leb (x .reservation) (x .ceiling) & leb (x .ceiling) k & b) (plan-with k (x .ca + 1) before s after f)
+    ap (λ (b : Bool). leb low (x .ca) & leb (x .ca) highestCa & leb (x .reservation) (x .ceiling) & leb (x .ceiling) k & b) (plan-with k (x .ca + 1) before s after f)
 
 reserved-with : (before : List Station) (s : Station) (after : List Station) (f : List Point → List Point)
     → total reserved (before ++ (withPoints f s ∷ after)) ≡ total reserved (before ++ (s ∷ after))
@@ -268,7 +268,7 @@ empty-plan : (k low : ℕ) (ss : List Station) → planned k low (none-left ss) 
 unfolding planned none-left
 empty-plan k low [] = refl
 empty-plan k low (s ∷ ss) =
-    ap (λ (b : Bool). leb low (s .ca) & leb (s .ca) 65534 & leb (s .reservation) (s .ceiling) & leb (s .ceiling) k & b) (empty-plan k (s .ca + 1) ss)
+    ap (λ (b : Bool). leb low (s .ca) & leb (s .ca) highestCa & leb (s .reservation) (s .ceiling) & leb (s .ceiling) k & b) (empty-plan k (s .ca + 1) ss)
 
 empty-reserved : (ss : List Station) → total reserved (none-left ss) ≡ total reserved ss
 unfolding total none-left

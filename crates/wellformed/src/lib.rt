@@ -73,6 +73,9 @@ fn head_ok(m: &[u8]) -> bool
 
 // ---- the plan
 
+// The highest common address of a station; 65,535 means all stations.
+const HIGHEST_CA: usize = 65534;
+
 // CA from `low` to 65,534, r ≤ c ≤ K, held ≤ c.
 pub fn numbers_ok(k: usize, low: usize, ca: usize, r: usize, c: usize, h: usize) -> bool
     ensures { λ ok. ⌜ ok ≡ numbersOk k low ca r c h ⌝ }
@@ -80,7 +83,7 @@ pub fn numbers_ok(k: usize, low: usize, ca: usize, r: usize, c: usize, h: usize)
     if ca < low {
         return false;
     }
-    if 65534 < ca {
+    if HIGHEST_CA < ca {
         return false;
     }
     if c < r {
