@@ -1,25 +1,25 @@
 -- What a change of one station does to a table: the station is found once, the others are as they were, and a good table stays good
 -- where the changed points rise and the new shares are sound. Assumes nothing.
-use mathlib.Core.Path.{_≡_, refl, sym, ap, ap₂, _∙_, subst}
+use mathlib.Core.Path.{_≡_, refl, sym, ap, _∙_, subst}
 use mathlib.Core.List.{List, [], _∷_, _++_, map}
 use mathlib.Core.Bool.{Bool, true, false}
-use mathlib.Core.Option.{Option, none, some}
-use Prim.Native.Nat.{ℕ, zero, suc, _+_, _-_, _≤_, _<_}
+use mathlib.Core.Option.{none, some}
+use Prim.Native.Nat.{ℕ, suc, _+_, _≤_, _<_}
 use native.Mathlib.Omega.{arith}
-use lib.ListN.{length, take, drop, length-append}
+use lib.ListN.{length, length-append}
 use lib.Dec.{leb, eqb}
 use borrow.Author.Tests.{lt-ltb, eqb-true, eqb-false, eq-eqb, ne-eqb, leb-true, leb-false, le-leb, lt-leb}
 use Rattle.limits.specs.Test.{_&_, pick, total}
 use Rattle.limits.specs.Share.{Sound, takenIn, letGo, admissionIn, freeOf, unmetOf}
 use Rattle.limits.specs.declared.share.Share.{Share}
 use Rattle.limits.specs.declared.share.Admission.the-variants.{Admitted}
-use Rattle.limits.proofs.Tests.{both, join, total-append}
+use Rattle.limits.proofs.Tests.{both, join}
 use Rattle.limits.proofs.Shares.{admitted-only, take-in-keeps-sound, let-go-keeps-sound, fresh-plan-sound, nothingHeld, reservationOf}
 use Rattle.model.specs.declared.Point.{Point}
 use Rattle.model.specs.Place.{pointOk}
-use Rattle.table.specs.Table.{Station, Table, highestCa, held, shareOf, reserved, rising, allRising, good}
+use Rattle.table.specs.Table.{Station, Table, highestCa, held, shareOf, reserved, rising, allRising}
 use Rattle.table.specs.Change.{stationOf, inStation, withPoints, changed, seekIn, known, insertIn, removeIn, added, removed, emptied}
-use Rattle.table.proofs.Parse.{Good, is-good}
+use Rattle.table.proofs.Parse.{Good}
 use Rattle.table.proofs.Shares.{planned, plan-of, shares-of, sound-numbers, good-sound, map-append}
 
 -- ---- where a station stands

@@ -1,10 +1,10 @@
 -- The table: stations that own their points; which tables are good; and the octets that a table is laid out as.
 -- Document 01, 'Points, stations and shares'; DESIGN.md, sections 2 and 3.
 use Prim.Native.Nat.{ℕ, _+_, _*_, _-_}
-use mathlib.Core.List.{List, [], _∷_, _++_, map}
-use mathlib.Core.Bool.{Bool, true, false}
+use mathlib.Core.List.{List, [], _∷_, _++_}
+use mathlib.Core.Bool.{Bool, true}
 use lib.ListN.{length, replicate}
-use lib.Dec.{leb, eqb}
+use lib.Dec.{leb}
 use Rattle.limits.specs.Test.{_&_, total}
 use Rattle.limits.specs.declared.share.Share.{Share}
 use Rattle.octets.specs.Number.{pair}
