@@ -3,7 +3,7 @@
 ghost use mathlib.Core.Path.{_≡_};
 ghost use Prim.Native.Nat.{_+_, _*_, _≤_, _<_};
 ghost use lib.ListN.{length};
-ghost use Rattle.layout.specs.Layout.{headSize, placeSize, stationSize, mostPlaces, mostStations, capacityIn, stationsIn, pointsIn, stationsFrom, heldAt, heldOffset};
+ghost use Rattle.layout.specs.Layout.{headSize, placeSize, stationSize, capacityIn, stationsIn, pointsIn, stationsFrom, sizeIn, caAt, reservationAt, ceilingAt, heldAt};
 
 // ---- sizes, in octets
 
@@ -93,6 +93,14 @@ pub fn points_of(m: &[u8]) -> usize
     octets::two_at(m, POINTS_OFFSET)
 }
 
+// The octets of the table.
+pub fn size_of(m: &[u8]) -> usize
+    requires { ⌜ headSize ≤ length (now m) ⌝ }
+    ensures { λ r. ⌜ r ≡ sizeIn (now (m .entry)) ⌝ }
+{
+    HEAD_SIZE + PLACE_SIZE * capacity_of(m) + STATION_SIZE * stations_of(m)
+}
+
 // ---- where places and stations lie
 
 // Place i of those from `first`.
@@ -111,7 +119,33 @@ pub fn station_at(m: &[u8], i: usize) -> usize
     HEAD_SIZE + PLACE_SIZE * capacity_of(m) + STATION_SIZE * i
 }
 
-// The held of the station at `at`.
+// ---- what a station says, its octets being at `at`
+
+// Its CA.
+pub fn ca_at(m: &[u8], at: usize) -> usize
+    requires { ⌜ at + stationSize ≤ length (now m) ⌝ }
+    ensures { λ r. ⌜ (r ≡ caAt (now (m .entry)) at) × (r < 65536) ⌝ }
+{
+    octets::two_at(m, at)
+}
+
+// Its reservation.
+pub fn reservation_at(m: &[u8], at: usize) -> usize
+    requires { ⌜ at + stationSize ≤ length (now m) ⌝ }
+    ensures { λ r. ⌜ (r ≡ reservationAt (now (m .entry)) at) × (r < 65536) ⌝ }
+{
+    octets::two_at(m, at + RESERVATION_OFFSET)
+}
+
+// Its ceiling.
+pub fn ceiling_at(m: &[u8], at: usize) -> usize
+    requires { ⌜ at + stationSize ≤ length (now m) ⌝ }
+    ensures { λ r. ⌜ (r ≡ ceilingAt (now (m .entry)) at) × (r < 65536) ⌝ }
+{
+    octets::two_at(m, at + CEILING_OFFSET)
+}
+
+// Its held.
 pub fn held_at(m: &[u8], at: usize) -> usize
     requires { ⌜ at + stationSize ≤ length (now m) ⌝ }
     ensures { λ r. ⌜ (r ≡ heldAt (now (m .entry)) at) × (r < 65536) ⌝ }

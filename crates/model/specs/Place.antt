@@ -1,9 +1,9 @@
 -- A registered point, the 48 octets of its place, and the tests of both.
 -- Document 01, 'Points, stations and shares'; DESIGN.md, section 3.
-use Prim.Native.Nat.{ℕ, zero, suc, _+_, _*_, _-_, _/_, _%_}
-use mathlib.Core.List.{List, [], _∷_, _++_}
-use mathlib.Core.Bool.{Bool, true, false, _||_}
-use lib.ListN.{length, take, drop, getD, replicate}
+use Prim.Native.Nat.{ℕ, zero, suc, _+_, _-_}
+use mathlib.Core.List.{List, _∷_, _++_}
+use mathlib.Core.Bool.{Bool, true, _||_}
+use lib.ListN.{length, getD, replicate}
 use lib.Dec.{leb, eqb}
 use Rattle.limits.specs.Test.{_&_}
 use Rattle.limits.specs.Size.{pointOctets}
@@ -15,11 +15,11 @@ use Rattle.model.specs.declared.Point.{Point}
 abbrev pub integratedTotals : ℕ
 integratedTotals = 15
 
-abbrev pub integratedTotalsTimed : ℕ
-integratedTotalsTimed = 37
+abbrev pub timedIntegratedTotals : ℕ
+timedIntegratedTotals = 37
 
 abbrev pub isCounter : ℕ → Bool
-isCounter kind = eqb kind integratedTotals || eqb kind integratedTotalsTimed
+isCounter kind = eqb kind integratedTotals || eqb kind timedIntegratedTotals
 
 -- The highest IOA, the number of interrogation groups, and that of counter groups.
 abbrev pub highestIoa : ℕ
@@ -48,10 +48,7 @@ pointOk p = leb (p .ioa) highestIoa & eqb (length (p .value)) valueSize & valid 
 -- The 48 octets of a point of station ca: type, CA, IOA, interrogation group, counter group, 0, value, zeros.
 abbrev pub placeOf : ℕ → Point → List ℕ
 placeOf ca p =
-    p .kind ∷ ca % 256 ∷ ca / 256 ∷ p .ioa % 256 ∷ p .ioa / 256 % 256 ∷ p .ioa / 65536 ∷ p .group % 256 ∷ p .group / 256 ∷ p .counter ∷ 0
-    ∷ getD (p .value) 0 0 ∷ getD (p .value) 1 0 ∷ getD (p .value) 2 0 ∷ getD (p .value) 3 0 ∷ getD (p .value) 4 0 ∷ getD (p .value) 5 0
-    ∷ getD (p .value) 6 0 ∷ getD (p .value) 7 0 ∷ getD (p .value) 8 0 ∷ getD (p .value) 9 0 ∷ getD (p .value) 10 0 ∷ getD (p .value) 11 0
-    ∷ replicate restSize 0
+    p .kind ∷ (pair ca ++ (triple (p .ioa) ++ (pair (p .group) ++ (p .counter ∷ 0 ∷ (twelve (p .value) 0 ++ replicate restSize 0)))))
 
 -- ---- as the code reads: nobody need believe what follows, the laws of `table` tie it to `pointOk` and `placeOf`
 

@@ -2,8 +2,8 @@
 -- Document 01, 'Points, stations and shares' and 'Numbers given back'; DESIGN.md, section 5.
 use Prim.Native.Nat.{ℕ, zero, suc, _+_, _-_}
 use mathlib.Core.List.{List, [], _∷_, _++_}
-use mathlib.Core.Bool.{Bool, true, false}
-use lib.ListN.{length, take, drop, getD, replicate}
+use mathlib.Core.Bool.{Bool, true}
+use lib.ListN.{take, getD, replicate}
 use lib.Dec.{leb, eqb}
 use Rattle.limits.specs.Test.{_&_, pick}
 use Rattle.limits.specs.Size.{pointOctets}

@@ -1,29 +1,24 @@
 -- A batch: requests that passed their own tests stay ready while those before them are taken in, so the table stays good at every turn. Assumes nothing.
-use mathlib.Core.Path.{_≡_, refl, sym, ap, _∙_, subst}
-use mathlib.Core.List.{List, [], _∷_, _++_, map}
+use mathlib.Core.Path.{_≡_, refl, sym, ap, _∙_}
+use mathlib.Core.List.{List, [], _∷_}
 use mathlib.Core.Bool.{Bool, true, false}
-use mathlib.Core.Option.{Option, none, some}
+use mathlib.Core.Option.{Option, some}
 use Prim.Native.Nat.{ℕ, _+_}
 use native.Mathlib.Omega.{arith}
 use lib.Dec.{eqb}
-use borrow.Author.Tests.{eqb-true, eqb-false, eq-eqb, ne-eqb}
+use borrow.Author.Tests.{eqb-true, eqb-false}
 use Rattle.limits.specs.Test.{_&_, pick}
 use Rattle.limits.specs.Outcome.{isDone}
-use Rattle.limits.specs.Share.{admissionIn}
-use Rattle.limits.specs.declared.share.Admission.the-variants.{Admitted}
-use Rattle.limits.specs.declared.outcome.Outcome.{Outcome}
 use Rattle.limits.specs.declared.outcome.Outcome.the-variants.{Done, AddressTwice}
 use Rattle.limits.proofs.Outcomes.{not-both, first-done, done-is}
-use Rattle.model.specs.declared.Point.{Point}
 use Rattle.model.specs.declared.Request.{Request}
-use Rattle.model.specs.Place.{pointOk}
 use Rattle.model.specs.Request.{ownFault, pointOf}
-use Rattle.table.specs.Table.{Station, Table, shareOf}
+use Rattle.table.specs.Table.{Station, Table}
 use Rattle.table.specs.Change.{stationOf, inStation, withPoints, withStations, changed, known, insertIn, added}
 use Rattle.table.proofs.Parse.{Good}
 use Rattle.table.proofs.Change.{changed-station, other-station, known-insert}
-use Rattle.registry.specs.Effect.{Effect, firstFault}
-use Rattle.registry.specs.Registry.{isPlanned, isRegistered, admissionOutcome, roomFault, registeredFault, requestOutcome, withRequest, standsIn, batchFault, ownTests, roomTests, registering, registeringAll}
+use Rattle.registry.specs.Effect.{Effect}
+use Rattle.registry.specs.Registry.{isPlanned, isRegistered, roomFault, withRequest, standsIn, batchFault, ownTests, roomTests}
 use Rattle.registry.specs.History.{Twelve, AllTwelve, heldAt, requestsOf}
 use Rattle.registry.proofs.Requests.{Accepted, accepted-good, held-added, described, planned-is, admitted-is, unregistered-is}
 

@@ -1,6 +1,6 @@
 -- What a call does to a table: a change of one station, a point taken in, a point let go, all points let go.
 -- Document 01, 'Points, stations and shares'. Other stations' lists are not touched: the change stands at one station.
-use Prim.Native.Nat.{ℕ, zero, suc}
+use Prim.Native.Nat.{ℕ, suc}
 use mathlib.Core.List.{List, [], _∷_, _++_, map}
 use mathlib.Core.Bool.{Bool, true, false}
 use mathlib.Core.Option.{Option, none, some}

@@ -1,7 +1,7 @@
 -- The table that a memory holds, and the test for one, as the code reads: nobody need believe these, the laws tie them to `good` and `image`.
 use Prim.Native.Nat.{ℕ, zero, suc, _+_, _*_, _-_}
-use mathlib.Core.List.{List, [], _∷_, _++_}
-use mathlib.Core.Bool.{Bool, true, false}
+use mathlib.Core.List.{List, [], _∷_}
+use mathlib.Core.Bool.{Bool, true}
 use mathlib.Core.Option.{Option, none, some}
 use lib.ListN.{length}
 use lib.Dec.{leb, eqb}
@@ -39,9 +39,13 @@ sumAt f m sb (suc n) = f m sb + sumAt f m (sb + stationSize) n
 abbrev pub unmetAt : List ℕ → ℕ → ℕ
 unmetAt m sb = reservationAt m sb - heldAt m sb
 
+-- the test of the numbers of the station at `sb`
+abbrev pub numbersAt : List ℕ → ℕ → ℕ → ℕ → Bool
+numbersAt m k low sb = numbersOk k low (caAt m sb) (reservationAt m sb) (ceilingAt m sb) (heldAt m sb)
+
 unfoldable pub planAt : List ℕ → ℕ → ℕ → ℕ → ℕ → Bool
 planAt m k low sb zero = true
-planAt m k low sb (suc n) = numbersOk k low (caAt m sb) (reservationAt m sb) (ceilingAt m sb) (heldAt m sb) & planAt m k (caAt m sb + 1) (sb + stationSize) n
+planAt m k low sb (suc n) = numbersAt m k low sb & planAt m k (caAt m sb + 1) (sb + stationSize) n
 
 -- the places of n stations
 unfoldable pub bodiesAt : List ℕ → ℕ → ℕ → ℕ → Bool

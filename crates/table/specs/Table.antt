@@ -1,10 +1,10 @@
 -- The table: stations that own their points; which tables are good; and the octets that a table is laid out as.
 -- Document 01, 'Points, stations and shares'; DESIGN.md, sections 2 and 3.
 use Prim.Native.Nat.{ℕ, _+_, _*_, _-_}
-use mathlib.Core.List.{List, [], _∷_, _++_, map}
-use mathlib.Core.Bool.{Bool, true, false}
+use mathlib.Core.List.{List, [], _∷_, _++_}
+use mathlib.Core.Bool.{Bool, true}
 use lib.ListN.{length, replicate}
-use lib.Dec.{leb, eqb}
+use lib.Dec.{leb}
 use Rattle.limits.specs.Test.{_&_, total}
 use Rattle.limits.specs.declared.share.Share.{Share}
 use Rattle.octets.specs.Number.{pair}
@@ -58,9 +58,13 @@ unfoldable pub allRising : List Station → Bool
 allRising [] = true
 allRising (s ∷ ss) = rising 0 (s .points) & allRising ss
 
+-- The highest common address of a station; 65,535 means all stations.
+abbrev pub highestCa : ℕ
+highestCa = 65534
+
 -- A station's numbers: CA from `low` to 65,534, r ≤ c ≤ K, held ≤ c.
 unfoldable pub numbersOk : ℕ → ℕ → ℕ → ℕ → ℕ → ℕ → Bool
-numbersOk k low ca r c h = leb low ca & leb ca 65534 & leb r c & leb c k & leb h c
+numbersOk k low ca r c h = leb low ca & leb ca highestCa & leb r c & leb c k & leb h c
 
 -- The same of each station, CA strictly ascending.
 unfoldable pub planOk : ℕ → ℕ → List Station → Bool

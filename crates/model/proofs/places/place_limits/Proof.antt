@@ -1,6 +1,6 @@
 -- A turn fills in the two limits of one type more; the counters' limits come last.
-use mathlib.Core.Path.{_≡_, refl, sym, ap, _∙_}
-use Prim.Native.Nat.{ℕ, _+_, _*_, _-_, _≤_, _<_}
+use mathlib.Core.Path.{_≡_, ap, _∙_}
+use Prim.Native.Nat.{ℕ, _-_, _≤_}
 use mathlib.Core.List.{List}
 use lib.ListN.{set}
 use Rattle.limits.specs.Size.{pointOctets, valuesFrom}
