@@ -5,9 +5,9 @@ use Prim.Native.Nat.{ℕ}
 use Rattle.octets.specs.Number.{Octets}
 use Rattle.model.specs.declared.Request.{Request}
 use Rattle.registry.specs.declared.Reply.{Reply}
-use Rattle.registry.specs.Effect.{replyOn, memoryOn}
+use Rattle.replies.specs.Replies.{Replies}
 use Rattle.registry.specs.Registry.{registeringAll}
-use Rattle.points.specs.Points.{whole, batchOf}
+use Rattle.points.specs.Points.{whole, decidingOctets, batchOf}
 use Rattle.among.specs.declared.Search.{Search}
 use Rattle.among.specs.Fold.{folded as lookedThrough}
 use Rattle.among.proofs.Found.{same-memory}
@@ -42,7 +42,7 @@ abbrev pub AllTested : List ℕ → List Request → Later → Later → List �
 AllTested ts ps s l zs = (l ≡ folded ps ts s ps .state) × (zs ≡ folded ps ts s ps .memory)
 
 abbrev pub FirstDone : List ℕ → List Request → Reply → List ℕ → Type 0
-FirstDone zs ps a ts′ = (a ≡ replyOn (registeringAll (batchOf 98328 ps)) zs) × (ts′ ≡ memoryOn (registeringAll (batchOf 98328 ps)) zs)
+FirstDone zs ps = Replies (registeringAll (batchOf decidingOctets ps)) zs
 
 abbrev pub Answers : List ℕ → List Request → Reply → List ℕ → Type 0
-Answers ts ps z ts′ = (z ≡ replyOn (registeringAll (map whole ps)) ts) × (ts′ ≡ memoryOn (registeringAll (map whole ps)) ts)
+Answers ts ps = Replies (registeringAll (map whole ps)) ts

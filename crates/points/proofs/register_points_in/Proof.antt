@@ -46,7 +46,8 @@ use Rattle.points.specs.Fold.{noneTaken}
 use Rattle.points.specs.declared.Taken.{Taken}
 use Rattle.points.proofs.Again.{LentAgain, lends-again, comes-back}
 use Rattle.points.proofs.Locals.{alloc-all}
-use Rattle.points.proofs.Records.{Took, Registered, Answers, taken-within, answers}
+use Rattle.points.specs.Entry.{Registered, Answers}
+use Rattle.points.proofs.Records.{Took, taken-within, answers}
 use Rattle.points.proofs.Taken as S
 use Rattle.points.proofs.Taken.Laws as S′
 use Rattle.points.proofs.none_taken as none

@@ -7,15 +7,15 @@ use mathlib.Core.Path.{_≡_}
 use Prim.Native.Nat.{_+_}
 use Rattle.limits.specs.Test.{_&_}
 use Rattle.octets.specs.Number.{two, four}
-use Rattle.records.specs.Records.{addressAt}
-use Rattle.records.proofs.address_at.Statement.{statement}
-use Rattle.records.proofs.address_at.Tie as tie
+use Rattle.records.specs.Records.{hasAddress}
+use Rattle.records.proofs.has_address.Statement.{statement}
+use Rattle.records.proofs.has_address.Tie as tie
 
 two-at-requires : tie.Need-two-at-requires
 two-at-requires c κs = search needs
 
 returns : tie.Need-returns
-unfolding addressAt _&_
+unfolding hasAddress _&_
 returns c =
     let a = c .before .before .before .args in
     let e : two (now (a .records)) (a .at) ≡ a .ca → ⊥ = omega arith in
@@ -28,13 +28,13 @@ four-at-requires : tie.Need-four-at-requires
 four-at-requires c κs = search needs
 
 returns-2 : tie.Need-returns-2
-unfolding addressAt _&_
+unfolding hasAddress _&_
 returns-2 c =
     let a = c .before .before .before .before .args in
     let e : two (now (a .records)) (a .at) ≡ a .ca = omega arith in
     let f : c .four-at .result ≡ four (now (a .records)) (a .at + 2) = c .four-at .ensures .0 in
     simp (eq-eqb _ _ e, f)
 
-pub address-at-spec : {M : Type 1} → statement M
-address-at-spec =
+pub has-address-spec : {M : Type 1} → statement M
+has-address-spec =
     tie.close (tie.spec two-at-requires returns add-four-at four-at-requires returns-2)
