@@ -4,6 +4,7 @@ use crate::commands;
 use crate::registration;
 use script::line;
 use script::memory::checksum;
+use script::memory::least;
 use script::prepare::Lent;
 use script::prepare::moved;
 use script::prepare::prepare;
@@ -59,6 +60,29 @@ fn call_and_print(
     next
 }
 
+// Makes the call at which the script stands, on as much of each memory as is lent.
+fn call_on_lent(
+    script: &[u8],
+    lent: Lent,
+    table: &mut [u8],
+    clock: &mut [u8; 8],
+    answer: &mut [u8],
+    spontaneous: &mut [u8],
+) -> usize {
+    let z = 0;
+    let t = least(lent.table, table.len());
+    let a = least(lent.answer, answer.len());
+    let s = least(lent.spontaneous, spontaneous.len());
+    call_and_print(
+        script,
+        lent.at,
+        &mut table[z..t],
+        clock,
+        &mut answer[z..a],
+        &mut spontaneous[z..s],
+    )
+}
+
 // Makes one step of a script: sets memory or makes a call.
 fn step(
     script: &[u8],
@@ -70,31 +94,10 @@ fn step(
     spontaneous: &mut [u8],
 ) -> Lent {
     let set = prepare(script, lent, table, kept, clock, answer, spontaneous);
-    let at = lent.at;
-    if set.at != at {
+    if set.at != lent.at {
         return set;
     }
-    let z = 0;
-    let t = lent.table;
-    let a = lent.answer;
-    let s = lent.spontaneous;
-    if table.len() < t {
-        return moved(lent, script.len());
-    }
-    if answer.len() < a {
-        return moved(lent, script.len());
-    }
-    if spontaneous.len() < s {
-        return moved(lent, script.len());
-    }
-    let next = call_and_print(
-        script,
-        at,
-        &mut table[z..t],
-        clock,
-        &mut answer[z..a],
-        &mut spontaneous[z..s],
-    );
+    let next = call_on_lent(script, lent, table, clock, answer, spontaneous);
     moved(lent, next)
 }
 

@@ -17,8 +17,5 @@
 mod calls;
 mod flat;
 
-pub use calls::{
-    connection_started, open, process_command, register_point, register_points, share, system_command, unregister_all,
-    unregister_point, Proposal, Reply, StationShare,
-};
-pub use flat::{table_octets, Record, Update, CLOCK, RECORD, UPDATE, VALUE};
+pub use calls::*;
+pub use flat::*;
