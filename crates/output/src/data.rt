@@ -1,7 +1,9 @@
 // The data of an interrogation or counter command: sized first, then written between what stands before and after it.
 use crate::order;
 use chains::link;
+use chains::link::SLOTS;
 use chains::write;
+use layout::MOST_PLACES;
 use report::Reach;
 use report::Selection;
 use report::Terms;
@@ -32,7 +34,7 @@ pub fn size_report(
     requires { ⌜ PlacesIn (now m) reach × LimitOk limit × (length (now types) ≤ slots) × Fresh reach (now heads) (now next) (now counts) ⌝ }
     ensures { λ r. ⌜ SizedBy s limit (now (types .entry)) (now (m .entry)) reach (now (heads .entry)) (now (next .entry)) r (now (heads .exit)) (now (next .exit)) (now (counts .exit)) ⌝ }
 {
-    let mut places: [u16; 4096] = [0; 4096];
+    let mut places: [u16; MOST_PLACES] = [0; MOST_PLACES];
     order::arrange(&mut places, m, reach);
     link::link(m, reach, &places, s, heads, next, counts);
     write::report_octets(limit, types, counts)
@@ -52,9 +54,9 @@ pub fn put_data(
     requires { ⌜ (before ≤ 65536) × (after ≤ 65536) × PlacesIn (now m) reach × TypesOk (now types) × TermsOk terms ⌝ }
     ensures { λ r. ⌜ Writes before after (wire (dataOf terms (now (types .entry)) s (now (m .entry)) reach)) (now (out .entry)) r (now (out .exit)) ⌝ }
 {
-    let mut heads: [u16; 64] = [0; 64];
-    let mut next: [u16; 4096] = [0; 4096];
-    let mut counts: [u16; 64] = [0; 64];
+    let mut heads: [u16; SLOTS] = [0; SLOTS];
+    let mut next: [u16; MOST_PLACES] = [0; MOST_PLACES];
+    let mut counts: [u16; SLOTS] = [0; SLOTS];
     let octets = size_report(
         m,
         reach,
