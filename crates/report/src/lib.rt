@@ -1,4 +1,4 @@
-// What a report is: which points a command asks for, how their objects are packed into ASDUs, and in which order. The octets are written by the crates above.
+// What a report is: which points a command asks for, of which places and in which terms, how their objects are packed into ASDUs, and in which order. The octets are written by the crates above.
 use layout::COUNTER_OFFSET;
 use layout::GROUP_OFFSET;
 ghost use mathlib.Core.Path.{_≡_};
@@ -13,6 +13,20 @@ pub enum Selection {
     Every,
     Group(u8),
     CounterGroup(u8),
+}
+
+// The n places from `base`: every station's, or one station's own.
+pub struct Reach {
+    pub base: usize,
+    pub n: usize,
+    pub every: bool,
+}
+
+// What all ASDUs of a report have in common: the length limit, the cause and the common address.
+pub struct Terms {
+    pub limit: usize,
+    pub cause: u8,
+    pub ca: u16,
 }
 
 // Does the selection take the point of the place at `at`?
