@@ -17,7 +17,7 @@ use Rattle.table.specs.Table.{Station, Table}
 use Rattle.table.specs.Change.{stationOf, inStation, withPoints, withStations, changed, known, insertIn, added}
 use Rattle.table.proofs.Parse.{Good}
 use Rattle.table.proofs.Change.{changed-station, other-station, known-insert}
-use Rattle.registry.specs.Effect.{Effect}
+use Rattle.registry.specs.Effect.{Effect, refused}
 use Rattle.registry.specs.Registry.{isPlanned, isRegistered, roomFault, withRequest, standsIn, batchFault, ownTests, roomTests}
 use Rattle.registry.specs.History.{Twelve, AllTwelve, heldAt, requestsOf}
 use Rattle.registry.proofs.Requests.{Accepted, accepted-good, held-added, described, planned-is, admitted-is, unregistered-is}
@@ -167,3 +167,16 @@ room-tests-good t i (q ∷ qs) g (ready-more p x y) w e =
         → Goal (pick b (roomTests (withRequest t q) (i + 1) qs) (record { outcome = roomFault t (stationOf (q .ca) (t .stations)); place = i; after = t }))
     by-test ih true d e′ = ih (done-is _ d) e′
     by-test ih false d e′ = not-both (sym d ∙ ap isDone e′)
+
+-- ---- the settings
+
+-- A batch keeps the table's settings.
+pub room-settings : (t : Table) (i : ℕ) (qs : List Request) → roomTests t i qs .after .settings ≡ t .settings
+unfolding roomTests added changed
+room-settings t i [] = refl
+room-settings t i (q ∷ qs) = by-test (room-settings (withRequest t q) (i + 1) qs) (isDone (roomFault t (stationOf (q .ca) (t .stations))))
+  where
+    by-test : roomTests (withRequest t q) (i + 1) qs .after .settings ≡ t .settings
+        → (b : Bool) → pick b (roomTests (withRequest t q) (i + 1) qs) (refused (roomFault t (stationOf (q .ca) (t .stations))) i t) .after .settings ≡ t .settings
+    by-test ih true = ih
+    by-test ih false = refl

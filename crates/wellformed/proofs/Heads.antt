@@ -3,7 +3,6 @@ use mathlib.Core.Path.{_≡_, refl}
 use mathlib.Core.List.{List}
 use mathlib.Core.Bool.{Bool, true, false}
 use Prim.Native.Nat.{ℕ}
-use native.Mathlib.Omega.{arith}
 use Rattle.table.specs.Memory.{headAt}
 use Rattle.table.proofs.Parse.{Head, head-is}
 
@@ -13,7 +12,3 @@ no-head m f = by-test (headAt m) refl
     by-test : (b : Bool) → headAt m ≡ b → false ≡ b
     by-test true e = absurd (f (head-is m e))
     by-test false e = refl
-
--- nothing is both
-pub not-both : (b : Bool) → b ≡ true → b ≡ false → ⊥
-not-both b t f = let z : _≡_ {A = ℕ} 0 1 = cc in omega arith

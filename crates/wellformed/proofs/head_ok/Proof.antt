@@ -9,7 +9,8 @@ use denote.Ref.{now}
 use lib.ListN.{length}
 use Prim.Native.Nat.{_≤_}
 use mathlib.Core.Path.{sym, _∙_}
-use Rattle.wellformed.proofs.Heads.{no-head, not-both}
+use Rattle.limits.proofs.Outcomes.{not-both}
+use Rattle.wellformed.proofs.Heads.{no-head}
 use Rattle.wellformed.proofs.head_ok.Statement.{statement}
 use Rattle.wellformed.proofs.head_ok.Tie as tie
 
@@ -22,7 +23,7 @@ mark-ok-requires c κs = search needs
 returns-2 : tie.Need-returns-2
 returns-2 c =
     let start = c .before .before .before .before in
-    no-head (now (start .args .m)) (λ w. not-both _ (w .mark) (sym (c .before .mark-ok .ensures) ∙ not-true _ (c .if2 .taken)))
+    no-head (now (start .args .m)) (λ w. not-both (sym (not-true _ (c .if2 .taken)) ∙ c .before .mark-ok .ensures ∙ w .mark))
 
 capacity-of-requires : tie.Need-capacity-of-requires
 capacity-of-requires c κs = search needs
@@ -54,7 +55,7 @@ settings-ok-requires c κs = search needs
 returns-8 : tie.Need-returns-8
 returns-8 c =
     let start = c .before .before .before .before .before .before .before .before .before .before .before .before .before .before in
-    no-head (now (start .args .m)) (λ w. not-both _ (w .settings) (sym (c .before .settings-ok .ensures) ∙ not-true _ (c .if8 .taken)))
+    no-head (now (start .args .m)) (λ w. not-both (sym (not-true _ (c .if8 .taken)) ∙ c .before .settings-ok .ensures ∙ w .settings))
 
 all-zero-requires : tie.Need-all-zero-requires
 all-zero-requires c κs = search needs
