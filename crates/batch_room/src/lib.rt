@@ -61,7 +61,13 @@ fn share_with(m: &[u8], at: usize, taken: u16) -> Share
 }
 
 // The turn of a request of station `ca`; `taken` has what each station of the plan took in at the turns before.
-fn turn(m: &[u8], taken: &mut [u16; MOST_STATIONS], ca: usize, free: usize, unmet: usize) -> Standing
+fn turn(
+    m: &[u8],
+    taken: &mut [u16; MOST_STATIONS],
+    ca: usize,
+    free: usize,
+    unmet: usize,
+) -> Standing
     requires { ⌜ (stationsIn (now m) ≤ mostStations) × (sizeIn (now m) ≤ length (now m)) ⌝ }
     ensures { λ r. ⌜ Turned (now (m .entry)) (now (taken .entry)) ca free unmet r (now (taken .exit)) ⌝ }
 {
@@ -86,7 +92,13 @@ fn turn(m: &[u8], taken: &mut [u16; MOST_STATIONS], ca: usize, free: usize, unme
 }
 
 // The turns of all records, from what is free and unmet before the first.
-fn turns(m: &[u8], records: &[u8], taken: &mut [u16; MOST_STATIONS], free: usize, unmet: usize) -> Reply
+fn turns(
+    m: &[u8],
+    records: &[u8],
+    taken: &mut [u16; MOST_STATIONS],
+    free: usize,
+    unmet: usize,
+) -> Reply
     requires { ⌜ (stationsIn (now m) ≤ mostStations) × (sizeIn (now m) ≤ length (now m)) ⌝ }
     ensures { λ r. ⌜ AllTurned (now (m .entry)) (now (taken .entry)) free unmet (requestsIn (now (records .entry))) r (now (taken .exit)) ⌝ }
 {

@@ -1,6 +1,6 @@
 -- The record of one point is read back as the list of that point. Assumes nothing.
 use mathlib.Core.Path.{_≡_, sym, ap, _∙_}
-use mathlib.Core.List.{List, [], _∷_, _++_, append-nil}
+use mathlib.Core.List.{List, [], _∷_, append-nil}
 use Prim.Native.Nat.{ℕ}
 use Rattle.model.specs.declared.Request.{Request}
 use Rattle.records.specs.Records.{requestsIn}

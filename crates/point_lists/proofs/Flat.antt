@@ -6,6 +6,7 @@ use Rattle.model.specs.declared.Request.{Request}
 use Rattle.table.specs.Table.{Table}
 use Rattle.registry.specs.declared.Reply.{Reply}
 use Rattle.registry.specs.Effect.{Effect, replyOn, memoryOn}
+use Rattle.replies.specs.Replies.{Replies}
 use Rattle.registry.specs.Registry.{registeringAll}
 use Rattle.records.specs.Records.{requestsIn}
 use Rattle.points.specs.Points.{flatRecords, whole}
@@ -17,8 +18,6 @@ same-batch ps = ap registeringAll (sym (records-law ps))
 
 -- What meets the one contract meets the other: a slice of points is answered as its flat records are.
 pub slice-as-flat : (ps : List Request) (m : List ℕ) (x y : Reply) (m′ m″ : List ℕ)
-    → (x ≡ replyOn (registeringAll (map whole ps)) m) × (m′ ≡ memoryOn (registeringAll (map whole ps)) m)
-    → (y ≡ replyOn (registeringAll (requestsIn (flatRecords ps))) m) × (m″ ≡ memoryOn (registeringAll (requestsIn (flatRecords ps))) m)
-    → (x ≡ y) × (m′ ≡ m″)
+    → Replies (registeringAll (map whole ps)) m x m′ → Replies (registeringAll (requestsIn (flatRecords ps))) m y m″ → (x ≡ y) × (m′ ≡ m″)
 slice-as-flat ps m x y m′ m″ a b =
     (a .0 ∙ ap (λ (f : Table → Effect). replyOn f m) (same-batch ps) ∙ sym (b .0), a .1 ∙ ap (λ (f : Table → Effect). memoryOn f m) (same-batch ps) ∙ sym (b .1))

@@ -1,5 +1,5 @@
 -- What the calls of the two entries that hold a slice of point records come to. Lists and records alone, nothing of the code. Assumes nothing.
-use mathlib.Core.Path.{_≡_, refl, sym, ap, _∙_}
+use mathlib.Core.Path.{_≡_, ap, _∙_}
 use mathlib.Core.List.{List, map}
 use Prim.Native.Nat.{ℕ}
 use Rattle.octets.specs.Number.{Octets}

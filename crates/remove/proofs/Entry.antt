@@ -13,8 +13,7 @@ use Rattle.model.specs.declared.Point.{Point}
 use Rattle.table.specs.Table.{Station, Table, held, rising, image}
 use Rattle.table.specs.Memory.{pointsAt, tableOf, wellFormed}
 use Rattle.table.specs.Change.{stationOf, seekIn, known, removed, emptied}
-use Rattle.table.proofs.Parse.{Good, holds, parse-some}
-use Rattle.table.proofs.Change.{good-removed, good-emptied}
+use Rattle.table.proofs.Parse.{holds, parse-some}
 use Rattle.seats.specs.declared.Seat.the-variants.{Here}
 use Rattle.seats.specs.declared.Spot.the-variants.{Held}
 use Rattle.seats.specs.Seats.{seatAt}
@@ -32,7 +31,6 @@ pub record TakenOut (m : List ℕ) (ca ioa i h at : ℕ) : Type 0 where
   pub is-known : known ioa (station .points) ≡ true
   pub bounds : Removable m i h at
   pub memory : takenOut m i h at ≡ image (removed (tableOf m) ca ioa) ++ drop (length (image (tableOf m))) m
-  pub is-good : Good (removed (tableOf m) ca ioa)
 
 pub take-out-law : (m : List ℕ) (ca ioa i first h at : ℕ) → Octets m → wellFormed m ≡ true → seatAt m ca ≡ Here i first h → findAt m first h ioa ≡ Held at
     → TakenOut m ca ioa i h at
@@ -53,7 +51,6 @@ take-out-law m ca ioa i first h at o w es ef =
       is-known = k;
       bounds = take-out-bounds t m ca ioa s (d .found) i h at (gl .0) (gl .1) k z;
       memory = taken-out-parsed m t ca ioa s (d .found) i h at o (parse-some m w) k z;
-      is-good = good-removed t ca ioa s (gl .0) (d .found) k;
     }
 
 -- What taking all points out does.
@@ -61,11 +58,10 @@ pub record AllTakenOut (m : List ℕ) : Type 0 where
   pub bounds : (sizeIn m ≤ length m) × (pointsIn m ≤ capacityIn m)
   pub count : pointsIn m ≡ total held (tableOf m .stations)
   pub memory : allTakenOut m ≡ image (emptied (tableOf m)) ++ drop (length (image (tableOf m))) m
-  pub is-good : Good (emptied (tableOf m))
 
 pub take-all-out-law : (m : List ℕ) → Octets m → wellFormed m ≡ true → AllTakenOut m
 take-all-out-law m o w =
     let t : Table = tableOf m in
     let gl = holds m o w in
     let a = all-taken-out-parsed m t o (parse-some m w) in
-    record { bounds = take-all-out-bounds t m (gl .0) (gl .1); count = a .0; memory = a .1; is-good = good-emptied t (gl .0) }
+    record { bounds = take-all-out-bounds t m (gl .0) (gl .1); count = a .0; memory = a .1 }

@@ -1,6 +1,6 @@
 -- One point taken out: the memory after it is the image of the table without the point. Assumes nothing.
 use mathlib.Core.Path.{_≡_, refl, sym, ap, _∙_}
-use mathlib.Core.List.{List, [], _∷_, _++_, map, append-assoc}
+use mathlib.Core.List.{List, [], _∷_, _++_, append-assoc}
 use mathlib.Core.Bool.{Bool, true, false}
 use mathlib.Core.Option.{some}
 use Prim.Native.Nat.{ℕ, suc, _+_, _*_, _-_, _≤_, _<_}
@@ -16,12 +16,12 @@ use Rattle.octets.proofs.Laws.{over-at, lowered-cleared}
 use Rattle.model.specs.declared.Point.{Point}
 use Rattle.model.specs.Place.{placeOf}
 use Rattle.table.specs.Table.{Station, Table, held, rising, placesOf, bodies, eight, entries, head, image}
-use Rattle.table.specs.Change.{inStation, withPoints, changed, seekIn, known, removeIn, removed, emptied}
+use Rattle.table.specs.Change.{withPoints, changed, seekIn, known, removeIn, removed}
 use Rattle.table.proofs.Points.{length-places}
 use Rattle.table.proofs.Stations.{length-bodies, length-entries}
 use Rattle.table.specs.Memory.{parse}
 use Rattle.table.proofs.Parse.{Good, good-is, Laid, laid, parse-sound}
-use Rattle.table.proofs.Change.{Found, stations-split, station-rises, remove-length}
+use Rattle.table.proofs.Change.{Found, stations-split, station-rises}
 use Rattle.seats.proofs.Laws.{Standing}
 use Rattle.remove.specs.Remove.{closedUp, takenOut, Removable}
 use Rattle.table.proofs.Cut.{six, head-over, places-append, places-at, held-at, image-at}
@@ -244,34 +244,3 @@ pub taken-out-parsed : (m : List ℕ) (t : Table) (ca ioa : ℕ) (s : Station) (
 taken-out-parsed m t ca ioa s w i h at o e k z =
     let q = parse-sound m t o e in
     ap (λ (x : List ℕ). takenOut x i h at) (q .1) ∙ taken-out-image t (drop (length (image t)) m) ca ioa s w i h at (good-is t (q .0)) k z
-
--- ---- what a removal leaves
-
-plan-in : (ca : ℕ) (f : List Point → List Point) (ss : List Station)
-    → map (withPoints (λ (ps : List Point). [])) (inStation ca (withPoints f) ss) ≡ map (withPoints (λ (ps : List Point). [])) ss
-unfolding inStation
-plan-in ca f [] = refl
-plan-in ca f (s ∷ ss) = by-test (plan-in ca f ss) (eqb (s .ca) ca)
-  where
-    by-test : map (withPoints (λ (ps : List Point). [])) (inStation ca (withPoints f) ss) ≡ map (withPoints (λ (ps : List Point). [])) ss → (b : Bool)
-        → map (withPoints (λ (ps : List Point). [])) (pick b (withPoints f s ∷ ss) (s ∷ inStation ca (withPoints f) ss))
-        ≡ withPoints (λ (ps : List Point). []) s ∷ map (withPoints (λ (ps : List Point). [])) ss
-    by-test ih true = refl
-    by-test ih false = ap (λ (l : List Station). withPoints (λ (ps : List Point). []) s ∷ l) ih
-
--- A change of one station's points keeps K and the plan: without points the two tables are the same.
-pub changed-plan : (t : Table) (ca : ℕ) (f : List Point → List Point) → emptied (changed t ca f) ≡ emptied t
-unfolding emptied changed
-changed-plan t ca f = ap (λ (ss : List Station). record { capacity = t .capacity; stations = ss }) (plan-in ca f (t .stations))
-
--- One point less is held.
-pub removed-held : (t : Table) (ca ioa : ℕ) (s : Station) → Found ca (t .stations) s → known ioa (s .points) ≡ true
-    → total held (removed t ca ioa .stations) + 1 ≡ total held (t .stations)
-unfolding removed
-removed-held t ca ioa s w k =
-    let s′ : Station = withPoints (removeIn ioa) s in
-    let less : length (removeIn ioa (s .points)) + 1 ≡ held s = remove-length ioa (s .points) k in
-    let e : total held (changed t ca (removeIn ioa) .stations) ≡ total held (w .before ++ (s′ ∷ w .after)) = ap (total held) (stations-split t ca (removeIn ioa) s w) in
-    let a : total held (t .stations) ≡ total held (w .before) + (held s + total held (w .after)) = ap (total held) (w .split) ∙ held-at (w .before) s (w .after) in
-    let b : total held (w .before ++ (s′ ∷ w .after)) ≡ total held (w .before) + (length (removeIn ioa (s .points)) + total held (w .after)) = held-at (w .before) s′ (w .after) in
-    omega arith

@@ -22,36 +22,21 @@ capacity-of-requires : tie.Need-capacity-of-requires
 capacity-of-requires c κs =
     let at-slice-known = c .before .before .before in
     let at-start = at-slice-known .before in
-    let a = at-start .args in
-    let p = at-start .pre in
-    let m = now (a .m) in
-    let r = now (a .records) in
-    let z = storable m r (now (a .taken)) (λ j. omega (arith, at-slice-known .slice-known .given j)) (p .0) (p .1) in
-    let long = z .length-is in
+    let long = storable (now (at-start .args .m)) _ _ (λ j. omega (arith, at-slice-known .slice-known .given j)) (at-start .pre .0) (at-start .pre .1) .length-is in
     omega arith
 
 stations-of-requires : tie.Need-stations-of-requires
 stations-of-requires c κs =
     let at-slice-known = c .before .before .before .before .before in
     let at-start = at-slice-known .before in
-    let a = at-start .args in
-    let p = at-start .pre in
-    let m = now (a .m) in
-    let r = now (a .records) in
-    let z = storable m r (now (a .taken)) (λ j. omega (arith, at-slice-known .slice-known .given j)) (p .0) (p .1) in
-    let long = z .length-is in
+    let long = storable (now (at-start .args .m)) _ _ (λ j. omega (arith, at-slice-known .slice-known .given j)) (at-start .pre .0) (at-start .pre .1) .length-is in
     omega arith
 
 points-of-requires : tie.Need-points-of-requires
 points-of-requires c κs =
     let at-slice-known = c .before .before .before .before .before .before .before in
     let at-start = at-slice-known .before in
-    let a = at-start .args in
-    let p = at-start .pre in
-    let m = now (a .m) in
-    let r = now (a .records) in
-    let z = storable m r (now (a .taken)) (λ j. omega (arith, at-slice-known .slice-known .given j)) (p .0) (p .1) in
-    let long = z .length-is in
+    let long = storable (now (at-start .args .m)) _ _ (λ j. omega (arith, at-slice-known .slice-known .given j)) (at-start .pre .0) (at-start .pre .1) .length-is in
     omega arith
 
 merge-requires : tie.Need-merge-requires
@@ -113,10 +98,8 @@ add-put-two c =
     let at-start = at-slice-known .before in
     let a = at-start .args in
     let p = at-start .pre in
-    let m = now (a .m) in
-    let r = now (a .records) in
-    let z = storable m r (now (a .taken)) (λ j. omega (arith, at-slice-known .slice-known .given j)) (p .0) (p .1) in
-    let e8 : at-points-of .points-of .result ≡ pointsIn m = at-points-of .points-of .ensures .0 in
+    let z = storable (now (a .m)) _ _ (λ j. omega (arith, at-slice-known .slice-known .given j)) (p .0) (p .1) in
+    let e8 : at-points-of .points-of .result ≡ pointsIn (now (a .m)) = at-points-of .points-of .ensures .0 in
     let few = z .capacity in
     let free = z .free in
     omega arith
@@ -130,10 +113,8 @@ put-two-requires c κs =
     let at-start = at-slice-known .before in
     let a = at-start .args in
     let p = at-start .pre in
-    let m = now (a .m) in
-    let r = now (a .records) in
-    let z = storable m r (now (a .taken)) (λ j. omega (arith, at-slice-known .slice-known .given j)) (p .0) (p .1) in
-    let e8 : at-points-of .points-of .result ≡ pointsIn m = at-points-of .points-of .ensures .0 in
+    let z = storable (now (a .m)) _ _ (λ j. omega (arith, at-slice-known .slice-known .given j)) (p .0) (p .1) in
+    let e8 : at-points-of .points-of .result ≡ pointsIn (now (a .m)) = at-points-of .points-of .ensures .0 in
     let few = z .capacity in
     let free = z .free in
     let long = z .length-is in

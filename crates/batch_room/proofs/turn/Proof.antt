@@ -37,36 +37,24 @@ station-at-requires : tie.Need-station-at-requires
 station-at-requires c κs =
     let at-seat-at = c .before .before .before in
     let at-start = at-seat-at .before .before in
-    let a = at-start .args in
-    let m = now (a .m) in
-    let g = c .before .seat .given in
-    let e : seatAt m (a .ca) ≡ Here (g .0 .0) (g .0 .1 .0) (g .0 .1 .1 .0) = sym (at-seat-at .seat-at .ensures) ∙ g .1 in
-    let i = seat-inside m (a .ca) (g .0 .0) (g .0 .1 .0) (g .0 .1 .1 .0) e in
-    let stations : stationsIn m ≤ mostStations = at-start .pre .0 in
+    let i = seat-inside _ _ _ _ _ (sym (at-seat-at .seat-at .ensures) ∙ c .before .seat .given .1) in
+    let stations = at-start .pre .0 in
     (omega arith, omega arith)
 
 mul-earlier : tie.Need-mul-earlier
 mul-earlier c =
     let at-seat-at = c .before .before .before .before in
     let at-start = at-seat-at .before .before in
-    let a = at-start .args in
-    let m = now (a .m) in
-    let g = c .before .before .seat .given in
-    let e : seatAt m (a .ca) ≡ Here (g .0 .0) (g .0 .1 .0) (g .0 .1 .1 .0) = sym (at-seat-at .seat-at .ensures) ∙ g .1 in
-    let i = seat-inside m (a .ca) (g .0 .0) (g .0 .1 .0) (g .0 .1 .1 .0) e in
-    let stations : stationsIn m ≤ mostStations = at-start .pre .0 in
+    let i = seat-inside _ _ _ _ _ (sym (at-seat-at .seat-at .ensures) ∙ c .before .before .seat .given .1) in
+    let stations = at-start .pre .0 in
     omega arith
 
 element-copy-out-earlier : tie.Need-element-copy-out-earlier
 element-copy-out-earlier c =
     let at-seat-at = c .before .before .before .before in
     let at-start = at-seat-at .before .before in
-    let a = at-start .args in
-    let m = now (a .m) in
-    let g = c .before .before .seat .given in
-    let e : seatAt m (a .ca) ≡ Here (g .0 .0) (g .0 .1 .0) (g .0 .1 .1 .0) = sym (at-seat-at .seat-at .ensures) ∙ g .1 in
-    let i = seat-inside m (a .ca) (g .0 .0) (g .0 .1 .0) (g .0 .1 .1 .0) e in
-    let stations : stationsIn m ≤ mostStations = at-start .pre .0 in
+    let i = seat-inside _ _ _ _ _ (sym (at-seat-at .seat-at .ensures) ∙ c .before .before .seat .given .1) in
+    let stations = at-start .pre .0 in
     omega arith
 
 share-with-requires : tie.Need-share-with-requires
@@ -74,14 +62,10 @@ share-with-requires c κs =
     let at-seat = c .before .before .before in
     let at-seat-at = at-seat .before .before in
     let at-start = at-seat-at .before .before in
-    let a = at-start .args in
-    let m = now (a .m) in
-    let g = at-seat .seat .given in
-    let e : seatAt m (a .ca) ≡ Here (g .0 .0) (g .0 .1 .0) (g .0 .1 .1 .0) = sym (at-seat-at .seat-at .ensures) ∙ g .1 in
-    let i = seat-inside m (a .ca) (g .0 .0) (g .0 .1 .0) (g .0 .1 .1 .0) e in
-    let stations : stationsIn m ≤ mostStations = at-start .pre .0 in
+    let i = seat-inside _ _ _ _ _ (sym (at-seat-at .seat-at .ensures) ∙ at-seat .seat .given .1) in
+    let stations = at-start .pre .0 in
     let at = c .before .station-at .ensures in
-    let room : sizeIn m ≤ length m = at-start .pre .1 in
+    let room = at-start .pre .1 in
     omega arith
 
 ask-requires : tie.Need-ask-requires
@@ -132,12 +116,8 @@ mul-taken c =
     let at-seat = c .before .before .before .before .before .before .before in
     let at-seat-at = at-seat .before .before in
     let at-start = at-seat-at .before .before in
-    let a = at-start .args in
-    let m = now (a .m) in
-    let g = at-seat .seat .given in
-    let e : seatAt m (a .ca) ≡ Here (g .0 .0) (g .0 .1 .0) (g .0 .1 .1 .0) = sym (at-seat-at .seat-at .ensures) ∙ g .1 in
-    let i = seat-inside m (a .ca) (g .0 .0) (g .0 .1 .0) (g .0 .1 .1 .0) e in
-    let stations : stationsIn m ≤ mostStations = at-start .pre .0 in
+    let i = seat-inside _ _ _ _ _ (sym (at-seat-at .seat-at .ensures) ∙ at-seat .seat .given .1) in
+    let stations = at-start .pre .0 in
     omega arith
 
 element-write-taken : tie.Need-element-write-taken
@@ -145,12 +125,8 @@ element-write-taken c =
     let at-seat = c .before .before .before .before .before .before .before in
     let at-seat-at = at-seat .before .before in
     let at-start = at-seat-at .before .before in
-    let a = at-start .args in
-    let m = now (a .m) in
-    let g = at-seat .seat .given in
-    let e : seatAt m (a .ca) ≡ Here (g .0 .0) (g .0 .1 .0) (g .0 .1 .1 .0) = sym (at-seat-at .seat-at .ensures) ∙ g .1 in
-    let i = seat-inside m (a .ca) (g .0 .0) (g .0 .1 .0) (g .0 .1 .1 .0) e in
-    let stations : stationsIn m ≤ mostStations = at-start .pre .0 in
+    let i = seat-inside _ _ _ _ _ (sym (at-seat-at .seat-at .ensures) ∙ at-seat .seat .given .1) in
+    let stations = at-start .pre .0 in
     omega arith
 
 returns-3 : tie.Need-returns-3
