@@ -130,17 +130,17 @@ abbrev pub processReply : Command → Proposal → List ℕ
 processReply c p =
     reply c (p .kind) (length (p .objects) / (addressOctets + elementOctets (p .kind))) (confirmationCause (c .cause)) (p .negative) (p .objects)
 
-unfoldable pub processFrom : Proposal → Reading → Table → Said
-processFrom p LengthOutOfRange t = unsaid (outcomeOf LengthOutOfRange) t []
-processFrom p TypeNotServed t = unsaid (outcomeOf TypeNotServed) t []
-processFrom p ObjectsNotWhole t = unsaid (outcomeOf ObjectsNotWhole) t []
-processFrom p (Parsed c) t =
+unfoldable pub processFrom : List ℕ → Proposal → Reading → Table → Said
+processFrom clock p LengthOutOfRange t = unsaid (outcomeOf LengthOutOfRange) t clock
+processFrom clock p TypeNotServed t = unsaid (outcomeOf TypeNotServed) t clock
+processFrom clock p ObjectsNotWhole t = unsaid (outcomeOf ObjectsNotWhole) t clock
+processFrom clock p (Parsed c) t =
     pick (processCauseTaken (c .cause))
     (pick (proposalOk (limitOf t) (p .kind) (p .objects))
-    (record { outcome = Done; answer = processReply c p; told = toldBy t (readUpdates p); after = tableAfter t (readUpdates p); clock = [] })
-    (unsaid BadProposal t []))
-    (unsaid Silent t [])
+    (record { outcome = Done; answer = processReply c p; told = toldBy t (readUpdates p); after = tableAfter t (readUpdates p); clock = clock })
+    (unsaid BadProposal t clock))
+    (unsaid Silent t clock)
 
--- What a process command says to a table.
-abbrev pub processSaid : Proposal → List ℕ → Table → Said
-processSaid p m t = processFrom p (readAs (limitOf t) ProcessCommands m) t
+-- What a process command says to a table; the clock stays.
+abbrev pub processSaid : List ℕ → Proposal → List ℕ → Table → Said
+processSaid clock p m t = processFrom clock p (readAs (limitOf t) ProcessCommands m) t
