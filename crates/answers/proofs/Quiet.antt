@@ -29,6 +29,7 @@ use Rattle.answers.specs.declared.Choice.the-variants.{Selected, Denied}
 use Rattle.answers.specs.Said.{Said, Lent, outcomeWith}
 use Rattle.answers.specs.System.{chosen, qualifierOf, resetIn, resetAt, resetBy, resets, afterCounters, commandSaid, systemFrom, systemSaid, isSilent, interrogationType, countersType, readType, clockType}
 use Rattle.answers.specs.Process.{Update, Proposal, updateOctets, updatesAt, updated, updateOf, replaceIn, tableWith, tableAfter, readUpdates, processCauseTaken, proposalOk, processFrom, processSaid}
+use Rattle.answers.specs.Start.{startSaid}
 use Rattle.answers.proofs.Common.{effectIn}
 use Rattle.answers.proofs.Values.{reset-gentle, point-in, updated-ok, replace-gentle}
 
@@ -124,6 +125,12 @@ system-still clock m (Parsed c) t = pick-still t (isSilent c m) _ _ (still-same 
 -- Every system command is quiet.
 pub system-quiet : (m : List ℕ) (l : Lent) → Quiet (effectIn (systemSaid (l .clock) m) l)
 system-quiet m l = still-quiet (systemSaid (l .clock) m) l (λ t. system-still (l .clock) m _ t)
+
+-- ---- the start of a connection
+
+-- It is quiet.
+pub start-quiet : (l : Lent) → Quiet (effectIn (startSaid (l .clock)) l)
+start-quiet l = still-quiet (startSaid (l .clock)) l still-same
 
 -- ---- process commands
 

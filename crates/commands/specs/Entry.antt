@@ -15,6 +15,10 @@ proposalOf negative kind objects updates = record { negative = negative; kind = 
 abbrev pub Memory : Type 0
 Memory = Both (RefT (List ℕ)) (RefT (List ℕ))
 
+-- The same of a caller's slices.
+abbrev pub proposed : Bool → ℕ → Memory → Memory → Proposal
+proposed negative kind reply updates = proposalOf negative kind (now (reply .entry)) (now (updates .entry))
+
 -- The three memories of a process command as it finds them; it has no clock.
 abbrev pub asFound : Memory → Memory → Memory → Lent
 asFound table answer spontaneous = lent (now (table .entry)) [] (now (answer .entry)) (now (spontaneous .entry))

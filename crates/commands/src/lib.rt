@@ -23,7 +23,7 @@ ghost use Rattle.asdu.specs.Command.{isProcess};
 ghost use Rattle.asdu.specs.declared.command.Reading.the-variants.{Parsed};
 ghost use Rattle.answers.specs.Said.{Leaves, asItIs};
 ghost use Rattle.answers.specs.Process.{updateOctets, proposalOk, processCauseTaken, confirmationCause, processReply, processFrom, processSaid};
-ghost use Rattle.commands.specs.Entry.{proposalOf, asFound, asLeft};
+ghost use Rattle.commands.specs.Entry.{proposalOf, proposed, asFound, asLeft};
 
 // The octets of an APDU before its first object.
 const BEFORE_OBJECTS: usize = CONTROL_OCTETS + HEADER_OCTETS;
@@ -123,7 +123,7 @@ fn handle_process_command(
     spontaneous: &mut [u8],
 ) -> Answered
     requires { ⌜ wellFormed (now table) ≡ true ⌝ }
-    ensures { λ r. ⌜ Leaves asItIs (processFrom [] (proposalOf negative «reply_type» (now (reply .entry)) (now (updates .entry))) (Parsed command)) (asFound table answer spontaneous) r (asLeft table answer spontaneous) ⌝ }
+    ensures { λ r. ⌜ Leaves asItIs (processFrom [] (proposed negative «reply_type» reply updates) (Parsed command)) (asFound table answer spontaneous) r (asLeft table answer spontaneous) ⌝ }
 {
     if !is_command_cot(command.cause) {
         return Answered::nothing(Outcome::Silent);
@@ -159,7 +159,7 @@ pub fn process_command(
     answer: &mut [u8],
     spontaneous: &mut [u8],
 ) -> Answered
-    ensures { λ r. ⌜ Leaves asItIs (processSaid [] (proposalOf negative «reply_type» (now (reply .entry)) (now (updates .entry))) (now (asdu .entry))) (asFound table answer spontaneous) r (asLeft table answer spontaneous) ⌝ }
+    ensures { λ r. ⌜ Leaves asItIs (processSaid [] (proposed negative «reply_type» reply updates) (now (asdu .entry))) (asFound table answer spontaneous) r (asLeft table answer spontaneous) ⌝ }
 {
     if !wellformed::well_formed(table) {
         return Answered::nothing(Outcome::TableNotWellFormed);
