@@ -42,13 +42,35 @@ pub record Proposal : Type 0 where
   pub objects : List ℕ
   pub updates : List Update
 
--- The updates of a flat list: 18 octets each, CA 2, IOA 3, type 1, value 12; octets after the last whole one are ignored.
+-- ---- the flat form of an update: CA 2, IOA 3, type 1, value 12
+
+abbrev pub updateIoaOffset : ℕ
+updateIoaOffset = 2
+
+abbrev pub updateTypeOffset : ℕ
+updateTypeOffset = 5
+
+abbrev pub updateValueOffset : ℕ
+updateValueOffset = 6
+
+abbrev pub updateOctets : ℕ
+updateOctets = 18
+
+-- The update whose octets begin at `at`.
+abbrev pub updateAt : List ℕ → ℕ → Update
+updateAt m at =
+    record { ca = two m at; ioa = three m (at + updateIoaOffset); kind = getD m (at + updateTypeOffset) 0; value = twelve m (at + updateValueOffset) }
+
+-- n updates, one after another.
 unfoldable pub updatesAt : List ℕ → ℕ → ℕ → List Update
 updatesAt m at zero = []
-updatesAt m at (suc n) = record { ca = two m at; ioa = three m (at + 2); kind = getD m (at + 5) 0; value = twelve m (at + 6) } ∷ updatesAt m (at + 18) n
+updatesAt m at (suc n) = updateAt m at ∷ updatesAt m (at + updateOctets) n
 
+-- The updates of a flat list; octets after the last whole one are ignored.
 abbrev pub updatesIn : List ℕ → List Update
-updatesIn m = updatesAt m 0 (length m / 18)
+updatesIn m = updatesAt m 0 (length m / updateOctets)
+
+-- ---- the tests of a proposal and of a cause
 
 -- A proposal is good under the length limit L if its type is a process type and its reply octets are at most L − 10 and whole objects; else it is bad (6).
 unfoldable pub proposalOk : ℕ → ℕ → List ℕ → Bool
@@ -109,17 +131,17 @@ confirmationCause cause = pick (eqb cause deactivation) deactivationConfirmation
 abbrev pub processReply : Command → Proposal → Asdu
 processReply c p = reply c (p .kind) (confirmationCause (c .cause)) (p .negative) (objectsOf (elementOctets (p .kind)) (p .objects))
 
-unfoldable pub processFrom : Proposal → Reading → Table → Said
-processFrom p LengthOutOfRange t = unsaid (outcomeOf LengthOutOfRange) t []
-processFrom p TypeNotServed t = unsaid (outcomeOf TypeNotServed) t []
-processFrom p ObjectsNotWhole t = unsaid (outcomeOf ObjectsNotWhole) t []
-processFrom p (Parsed c) t =
+unfoldable pub processFrom : List ℕ → Proposal → Reading → Table → Said
+processFrom clock p LengthOutOfRange t = unsaid (outcomeOf LengthOutOfRange) t clock
+processFrom clock p TypeNotServed t = unsaid (outcomeOf TypeNotServed) t clock
+processFrom clock p ObjectsNotWhole t = unsaid (outcomeOf ObjectsNotWhole) t clock
+processFrom clock p (Parsed c) t =
     pick (processCauseTaken (c .cause))
     (pick (proposalOk (limitOf t) (p .kind) (p .objects))
-    (record { outcome = Done; answer = processReply c p ∷ []; told = toldBy t (readUpdates p); after = tableAfter t (readUpdates p); clock = [] })
-    (unsaid BadProposal t []))
-    (unsaid Silent t [])
+    (record { outcome = Done; answer = processReply c p ∷ []; told = toldBy t (readUpdates p); after = tableAfter t (readUpdates p); clock = clock })
+    (unsaid BadProposal t clock))
+    (unsaid Silent t clock)
 
--- What a process command says to a table.
-abbrev pub processSaid : Proposal → List ℕ → Table → Said
-processSaid p m t = processFrom p (readAs (limitOf t) ProcessCommands m) t
+-- What a process command says to a table; the clock stays.
+abbrev pub processSaid : List ℕ → Proposal → List ℕ → Table → Said
+processSaid clock p m t = processFrom clock p (readAs (limitOf t) ProcessCommands m) t

@@ -6,8 +6,9 @@ use Rattle.asdu.specs.Header.{object}
 use Rattle.asdu.proofs.Laws.{length-asdu}
 use Rattle.report.specs.Report.{dataHeader}
 use Rattle.report.specs.Single.{endOfInitializationAsdu}
-use Rattle.starting.proofs.put_end_of_initialization.Statement.{statement}
-use Rattle.starting.proofs.put_end_of_initialization.Tie as tie
+use Rattle.report.proofs.Single.{length-end}
+use Rattle.starting.proofs.end_of_initialization_asdu.Statement.{statement}
+use Rattle.starting.proofs.end_of_initialization_asdu.Tie as tie
 
 cast-t5 : tie.Need-cast-t5
 cast-t5 c = search needs
@@ -17,7 +18,9 @@ slice-aggregate-put-asdu c = search needs
 
 put-asdu-requires : tie.Need-put-asdu-requires
 put-asdu-requires c κs =
-    let n = length-asdu (dataHeader 70 1 4 (c .before .before .before .args .ca)) (0 ∷ 0 ∷ 0 ∷ 0 ∷ []) in
+    let ca = c .before .before .before .args .ca in
+    let n = length-asdu (dataHeader 70 1 4 ca) (0 ∷ 0 ∷ 0 ∷ 0 ∷ []) in
+    let m = length-end ca in
     (omega arith, omega arith)
 
 same-length : tie.Need-same-length
@@ -27,6 +30,6 @@ returns : tie.Need-returns
 unfolding endOfInitializationAsdu object
 returns c = c .before .before .put-asdu .ensures .1
 
-pub put-end-of-initialization-spec : {M : Type 1} → statement M
-put-end-of-initialization-spec =
+pub end-of-initialization-asdu-spec : {M : Type 1} → statement M
+end-of-initialization-asdu-spec =
     tie.close (tie.spec cast-t5 slice-aggregate-put-asdu put-asdu-requires same-length returns)
