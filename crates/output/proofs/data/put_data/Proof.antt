@@ -101,7 +101,7 @@ put-report-requires c κs =
     let k = z .ensures .1 ∙ t .size in
     let e = ap length (t .octets) in
     let room = c .before .before .before .before .if1 .left in
-    (start .pre .4, start .pre .2, (omega (arith, h), omega (arith, x), omega (arith, n), t .chains), omega (arith, k, e, room))
+    (start .pre .4, (start .pre .2, omega (arith, h), omega (arith, x), omega (arith, n), t .chains), omega (arith, k, e, room))
 
 same-length : tie.Need-same-length
 same-length c = search needs
