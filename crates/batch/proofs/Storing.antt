@@ -23,10 +23,10 @@ use Rattle.registry.proofs.Batches.{Ready, own-tests-ready}
 use Rattle.records.specs.Records.{recordsIn, requestsIn}
 use Rattle.layout.specs.Layout.{mostPlaces, mostStations, pointsOffset, capacityIn, stationsIn, pointsIn, stationsFrom, sizeIn}
 use Rattle.sorting.specs.Sorted.{All, sorted}
-use Rattle.merging.specs.Merge.{merged, placesIn, Placed, withPlaces, placesOctets, Rises, placedFrom, numbersFrom, placedOf, Fits}
+use Rattle.merging.specs.Merge.{merged, firstPlaces, Placed, withPlaces, placesOctets, Rises, placedFrom, numbersFrom, placedOf, Fits}
 use Rattle.merging.proofs.Joined.{join-sorted}
 use Rattle.batch_room.specs.Room.{holdingWith, TookIn}
-use Rattle.batch.specs.Raise.{Accepted, raised, Raisable}
+use Rattle.batch.specs.Raise.{AllPass, raised, Raisable}
 use Rattle.batch.proofs.Flat.{flat, flat-octets, flat-read, flat-rises}
 use Rattle.batch.proofs.Ordered.{fits-all, apart-all, batch-numbers, batch-places}
 use Rattle.batch.proofs.Raised.{same-stations, raise-entries, raisable-entries}
@@ -111,14 +111,14 @@ pub record Storable (m r taken : List ℕ) : Type 0 where
   pub length-is : sizeIn m ≤ length m
   pub capacity : capacityIn m ≤ mostPlaces
   pub free : pointsIn m + recordsIn r ≤ capacityIn m
-  pub rises : Rises 0 (placesIn m (pointsIn m))
+  pub rises : Rises 0 (firstPlaces m (pointsIn m))
   pub records : All (Fits r) (numbersFrom r 0 (recordsIn r))
   pub raisable : Raisable (allMerged m r) taken 0 (stationsFrom m) (stationsIn m)
   pub memory : over (raised (allMerged m r) taken 0 (stationsFrom m) (stationsIn m)) pointsOffset (pair (pointsIn m + recordsIn r))
       ≡ holding m (tableOf m) (roomTests (tableOf m) 0 (requestsIn r) .after)
 
 -- An accepted batch can be stored.
-pub storable : (m r taken : List ℕ) → Octets m → Accepted m r → TookIn (tableOf m) (requestsIn r) taken → Storable m r taken
+pub storable : (m r taken : List ℕ) → Octets m → AllPass m r → TookIn (tableOf m) (requestsIn r) taken → Storable m r taken
 storable m r taken o (w, own, room) took =
     let t : Table = tableOf m in
     let T : Table = roomTests t 0 (requestsIn r) .after in
