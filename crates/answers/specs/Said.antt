@@ -13,7 +13,7 @@ use Rattle.limits.specs.declared.outcome.Outcome.{Outcome}
 use Rattle.limits.specs.declared.outcome.Outcome.the-variants.{Done, TableNotWellFormed, AnswerShort, SpontaneousShort}
 use Rattle.asdu.specs.Header.{Asdu, wire}
 use Rattle.table.specs.Table.{Table}
-use Rattle.table.specs.Memory.{parse}
+use Rattle.table.specs.Memory.{parse, tableOf}
 use Rattle.registry.specs.Effect.{holding, firstFault}
 use Rattle.answers.specs.declared.Answered.{Answered}
 
@@ -123,3 +123,9 @@ left asdus memory = pick (fits asdus memory) (fronted asdus memory) memory
 pub record Sends (asdus : List Asdu) (before : List ℕ) (r : Answered) (after : List ℕ) : Type 0 where
   pub answers : r ≡ sent asdus before
   pub leaves : after ≡ left asdus before
+
+-- ---- a table's memory that is changed in place
+
+-- A memory with a change of the table that it holds.
+abbrev pub withTable : (Table → Table) → List ℕ → List ℕ
+withTable f m = holding m (tableOf m) (f (tableOf m))

@@ -2,7 +2,7 @@
 use mathlib.Core.Path.{_≡_, refl, sym, ap, _∙_, subst}
 use mathlib.Core.List.{List, [], _∷_, _++_}
 use mathlib.Core.Bool.{Bool, true, false}
-use Prim.Native.Nat.{ℕ, zero, suc, _+_, _*_, _-_, _≤_}
+use Prim.Native.Nat.{ℕ, zero, suc, _+_, _*_, _≤_}
 use native.Mathlib.Omega.{arith}
 use lib.ListN.{length}
 use lib.Dec.{eqb}
@@ -12,7 +12,8 @@ use Rattle.octets.specs.Number.{two, Octets}
 use Rattle.asdu.specs.Header.{globalAddress}
 use Rattle.model.specs.declared.Point.{Point}
 use Rattle.model.specs.Place.{pointAt}
-use Rattle.table.specs.Memory.{pointsAt, stationsAt, sumAt, heldAt, tableOf, wellFormed}
+use Rattle.table.specs.Memory.{pointsAt, stationsAt, sumAt, tableOf, wellFormed}
+use Rattle.layout.specs.Layout.{heldAt}
 use Rattle.table.proofs.Parse.{Passed, passed}
 use Rattle.report.specs.declared.Reach.{Reach}
 use Rattle.report.specs.Packing.{joined}
