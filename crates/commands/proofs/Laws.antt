@@ -32,7 +32,7 @@ use Rattle.answers.specs.declared.Answered.{Answered}
 use Rattle.answers.specs.Said.{Said, Lent, lent, size, fronted, outcomeWith, answeredFrom, lentFrom, Leaves, asItIs, nothing}
 use Rattle.answers.specs.Process.{Update, Proposal, updateOctets, updatesAt, updatesIn, proposalOk, processCauseTaken, toldBy, processReply, processFrom, processSaid}
 use Rattle.answers.proofs.Proposals.{whole-reply, length-confirmed}
-use Rattle.answers.proofs.Ends.{front-is, ends-nothing, ends-refused}
+use Rattle.answers.proofs.Ends.{front-is, ends-nothing, ends-refused, ends-alike}
 use Rattle.updates.specs.Updates.{leftByAll}
 use Rattle.commands.specs.Entry.{proposalOf}
 
@@ -180,12 +180,5 @@ process-unread l p w (Parsed c) k = absurd (⊎-elim (λ e. omega arith) (λ v. 
 pub process-read : (l l′ : Lent) (p : Proposal) (m : List ℕ) (r : Answered) (x : Reading) → wellFormed (l .table) ≡ true
     → x ≡ readAs (limitOf (tableOf (l .table))) ProcessCommands m
     → Leaves asItIs (processFrom (l .clock) p x) l r l′ → Leaves asItIs (processSaid (l .clock) p m) l r l′
-unfolding answeredFrom lentFrom
 process-read l l′ p m r x w e h =
-    let t : Table = tableOf (l .table) in
-    let q : parse (l .table) ≡ some t = parse-some (l .table) w in
-    let f : Reading → Table → Said = λ y u. processFrom (l .clock) p y u in
-    record {
-      answers = h .answers ∙ ap (answeredFrom (f x) l) q ∙ (λ j. answeredFrom (f (e j)) l (some t)) ∙ sym (ap (answeredFrom (processSaid (l .clock) p m) l) q);
-      leaves = h .leaves ∙ ap (lentFrom (f x) l) q ∙ (λ j. lentFrom (f (e j)) l (some t)) ∙ sym (ap (lentFrom (processSaid (l .clock) p m) l) q);
-    }
+    ends-alike (processFrom (l .clock) p x) l w (processSaid (l .clock) p m) (ap (λ (y : Reading). processFrom (l .clock) p y (tableOf (l .table))) e) r l′ h

@@ -117,7 +117,7 @@ unfolding octetsTold total
 size-end m us at left h = ap (octetsTold (tableOf m)) (updates-end us at left h)
 
 -- What was added up is the length of all that will be told.
-pub size-all : (m us : List ℕ) (n : ℕ) → length (toldBy (tableOf m) (updatesAt us 0 n)) ≡ sizeLeft m us 0 n
+pub size-all : (m us : List ℕ) (n : ℕ) → length (toldByAll m us 0 n) ≡ sizeLeft m us 0 n
 size-all m us n = length-told-by (tableOf m) (updatesAt us 0 n) (updates-whole us 0 n)
 
 -- ---- the loop that stores and tells
