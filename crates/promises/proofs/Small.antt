@@ -190,6 +190,17 @@ unfolding addressesIn
 addresses-length m at zero = refl
 addresses-length m at (suc n) = ap suc (addresses-length m (at + addressOctets) n)
 
+-- An ASDU, and others after it.
+size-more : (a : Asdu) (as′ : List Asdu) → size (a ∷ as′) ≡ length (asduOctets a) + size as′
+unfolding wire joined
+size-more a as′ = length-append (asduOctets a) (wire as′)
+
+size-one : (a : Asdu) → size (a ∷ []) ≡ length (asduOctets a)
+size-one a = ap length (wire-one a)
+
+size-append : (xs ys : List Asdu) → size (xs ++ ys) ≡ size xs + size ys
+size-append xs ys = ap length (wire-append xs ys) ∙ length-append (wire xs) (wire ys)
+
 requested-small : (ca : ℕ) (qs : List Point) → Each Whole qs → size (map (requestedAsdu ca) qs) ≤ 21 * length qs
 unfolding Each
 requested-small ca [] w = let n = ap length wire-none in omega arith
@@ -201,17 +212,6 @@ requested-small ca (q ∷ qs) w =
     omega arith
 
 -- ---- every system command
-
--- An ASDU, and others after it.
-size-more : (a : Asdu) (as′ : List Asdu) → size (a ∷ as′) ≡ length (asduOctets a) + size as′
-unfolding wire joined
-size-more a as′ = length-append (asduOctets a) (wire as′)
-
-size-one : (a : Asdu) → size (a ∷ []) ≡ length (asduOctets a)
-size-one a = ap length (wire-one a)
-
-size-append : (xs ys : List Asdu) → size (xs ++ ys) ≡ size xs + size ys
-size-append xs ys = ap length (wire-append xs ys) ∙ length-append (wire xs) (wire ys)
 
 -- An answer of at most 4,000,000 octets.
 pub record Small (s : Said) : Type 0 where
