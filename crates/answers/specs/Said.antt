@@ -12,7 +12,7 @@ use Rattle.limits.specs.Outcome.{isDone}
 use Rattle.limits.specs.declared.outcome.Outcome.{Outcome}
 use Rattle.limits.specs.declared.outcome.Outcome.the-variants.{Done, TableNotWellFormed, AnswerShort, SpontaneousShort}
 use Rattle.table.specs.Table.{Table}
-use Rattle.table.specs.Memory.{parse}
+use Rattle.table.specs.Memory.{parse, tableOf}
 use Rattle.registry.specs.Effect.{holding, firstFault}
 use Rattle.answers.specs.declared.Answered.{Answered}
 
@@ -116,3 +116,9 @@ left octets memory = pick (fits octets memory) (fronted octets memory) memory
 pub record Sends (octets : List ℕ) (before : List ℕ) (r : Answered) (after : List ℕ) : Type 0 where
   pub answers : r ≡ sent octets before
   pub leaves : after ≡ left octets before
+
+-- ---- a table's memory that is changed in place
+
+-- A memory with a change of the table that it holds.
+abbrev pub withTable : (Table → Table) → List ℕ → List ℕ
+withTable f m = holding m (tableOf m) (f (tableOf m))

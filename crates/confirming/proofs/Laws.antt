@@ -1,41 +1,29 @@
--- An answer that fits is written at the front and its octets come back; one that does not fit leaves the memory. And three parts written one by one,
--- the middle first, are the whole at the front. Assumes nothing.
+-- Three parts written one by one, the middle first, are the whole at the front; and so data between confirmation and termination are the answer.
+-- Assumes nothing.
 use mathlib.Core.Path.{_≡_, refl, sym, ap, ap₂, _∙_}
-use mathlib.Core.List.{List, [], _∷_, _++_, append-assoc}
+use mathlib.Core.List.{List, [], _++_, append-assoc}
 use mathlib.Core.Bool.{Bool, true, false}
 use Prim.Native.Nat.{ℕ, _+_, _-_, _≤_, _<_}
 use native.Mathlib.Omega.{arith}
-use lib.ListN.{length, take, drop, length-append, length-take, length-drop, take-append-drop}
-use lib.Seq.{drop-drop, length-take-le}
+use lib.ListN.{length, take, drop, length-append, length-drop, take-append-drop}
+use lib.Seq.{length-take-le}
 use lib.Dec.{ltb}
-use borrow.Author.Tests.{le-leb, lt-leb, ltb-true, ltb-false}
+use borrow.Author.Tests.{ltb-true, ltb-false}
 use Rattle.limits.specs.Test.{pick}
-use Rattle.limits.specs.Size.{standardLimit}
 use Rattle.asdu.specs.declared.command.Command.{Command}
-use Rattle.asdu.specs.Confirmation.{confirmation}
 use Rattle.asdu.proofs.Lengths.{length-confirmation}
 use Rattle.report.specs.declared.Selection.{Selection}
-use Rattle.output.specs.declared.data.Written.{Written}
 use Rattle.output.specs.declared.data.Written.the-variants.{Octets, Short}
-use Rattle.output.specs.Data.{dataOf, wrote, written, tooShort}
+use Rattle.output.specs.Data.{dataFor, wrote, written, tooShort}
 use Rattle.limits.specs.declared.outcome.Outcome.the-variants.{AnswerShort}
 use Rattle.octets.specs.Over.{over}
 use Rattle.octets.proofs.Laws.{over-at}
-use Rattle.answers.specs.declared.Answered.{Answered}
-use Rattle.answers.specs.Said.{fronted}
-use Rattle.answers.proofs.Ends.{front-is}
-use Rattle.confirming.specs.Sending.{nothing, given, sent, left, whole}
-
-module _ (X m : List ℕ) where
-  -- It does not fit.
-  pub short-sent : length m < length X → (nothing AnswerShort ≡ sent X m) × (m ≡ left X m)
-  unfolding sent left
-  short-sent h = (sym (simp (lt-leb _ _ h)), sym (simp (lt-leb _ _ h)))
-
-  -- It fits.
-  pub full-sent : (n : ℕ) (m′ : List ℕ) → length X ≤ length m → n ≡ length X → m′ ≡ over m 0 X → (given n ≡ sent X m) × (m′ ≡ left X m)
-  unfolding sent left
-  full-sent n m′ h e f = (ap given e ∙ sym (simp (le-leb _ _ h)), f ∙ front-is m X ∙ sym (simp (le-leb _ _ h)))
+use Rattle.answers.proofs.Ends.{sends-nothing, sends-all}
+use Rattle.answers.specs.Said.{nothing, given, Sends}
+use Rattle.answers.specs.System.{confirmed, terminated, reported}
+use Rattle.table.specs.Table.{Table}
+use Rattle.table.specs.Settings.{limitOf}
+use Rattle.confirming.specs.Sending.{beforeElement}
 
 -- Data between what stands before and after them: the data first, then the front, then the end.
 pub between : (m C D T : List ℕ) (c d : ℕ) → length C ≡ c → length D ≡ d → c + (d + length T) ≤ length m
@@ -90,11 +78,49 @@ data-full out before after k xs e = by-test (ltb (length out) (before + (length 
     by-test true t e′ = let z : _≡_ {A = ℕ} 0 1 = cc in absurd (omega arith)
     by-test false t e′ = (cc, ltb-false _ _ t, simp t)
 
-pub length-whole : (types : List ℕ) (cause : ℕ) (s : Selection) (every : Bool) (table : List ℕ) (base n : ℕ) (c : Command) (m : List ℕ) → 9 + c .element ≤ length m
-    → length (whole types cause s every table base n c m) ≡ 9 + c .element + (length (dataOf standardLimit types cause (c .ca) s every table base n) + (9 + c .element))
-unfolding whole
-length-whole types cause s every table base n c m h =
-    let D : List ℕ = dataOf standardLimit types cause (c .ca) s every table base n in
-    let a = length-confirmation c m 7 false h in
-    let b = length-confirmation c m 10 false h in
-    length-append (confirmation c m 7 false) (D ++ confirmation c m 10 false) ∙ ap₂ (λ (x y : ℕ). x + y) a (length-append D (confirmation c m 10 false) ∙ ap (λ (x : ℕ). length D + x) b)
+-- ---- the whole answer
+
+module _ (t : Table) (c : Command) (m types : List ℕ) (cause : ℕ) (sel : Selection) (out : List ℕ) (h : beforeElement + c .element ≤ length m) where
+  -- its data, and the octets before and after them
+  abbrev asked : List ℕ
+  asked = dataFor (limitOf t) types cause (c .ca) sel (t .stations)
+
+  abbrev around : ℕ
+  around = beforeElement + c .element
+
+  length-reported : length (reported t c m types cause sel) ≡ around + (length asked + around)
+  unfolding reported dataFor
+  length-reported =
+      let a = length-confirmation c m 7 false h in
+      let b = length-confirmation c m 10 false h in
+      simp length-append (omega arith)
+
+  -- There is no room: nothing is written.
+  pub no-room : wrote (length out) around around asked ≡ Short → (out′ : List ℕ) → out′ ≡ written out around around asked
+      → Sends (reported t c m types cause sel) out (nothing AnswerShort) out′
+  no-room e out′ f =
+      let s = data-short out around around asked e in
+      let l = length-reported in
+      let z = sends-nothing (reported t c m types cause sel) out (omega (arith, s .0)) in
+      record { answers = z .answers; leaves = f ∙ sym (s .1) ∙ z .leaves }
+
+  -- There is room for all.
+  pub has-room : (k : ℕ) → wrote (length out) around around asked ≡ Octets k → around + (k + around) ≤ length out
+  has-room k e = let s = data-full out around around k asked e in omega (arith, s .0, s .1)
+
+  -- And the data, the confirmation, the termination make the whole.
+  pub all-written : (k : ℕ) → wrote (length out) around around asked ≡ Octets k → (out₁ out₂ out₃ : List ℕ) → out₁ ≡ written out around around asked
+      → out₂ ≡ over out₁ 0 (confirmed c m) → out₃ ≡ over out₂ (around + k) (terminated c m)
+      → Sends (reported t c m types cause sel) out (given (around + (k + around))) out₃
+  unfolding reported dataFor
+  all-written k e out₁ out₂ out₃ e₁ e₂ e₃ =
+      let s = data-full out around around k asked e in
+      let l = length-reported in
+      let lc = length-confirmation c m 7 false h in
+      let lt = length-confirmation c m 10 false h in
+      let room = s .1 in
+      let n = s .0 in
+      let o₂ : out₂ ≡ over (over out around asked) 0 (confirmed c m) = e₂ ∙ ap (λ (x : List ℕ). over x 0 (confirmed c m)) (e₁ ∙ s .2) in
+      let o₃ = e₃ ∙ (λ j. over (o₂ j) (around + n j) (terminated c m)) in
+      let w = between out (confirmed c m) asked (terminated c m) around (length asked) lc refl (omega arith) in
+      sends-all (reported t c m types cause sel) out (around + (k + around)) out₃ (omega arith) (omega arith) (o₃ ∙ w)

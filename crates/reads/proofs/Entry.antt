@@ -14,6 +14,8 @@ use Rattle.limits.proofs.Outcomes.{not-both}
 use Rattle.octets.specs.Number.{three, Octets}
 use Rattle.model.specs.declared.Point.{Point}
 use Rattle.model.specs.Place.{pointAt}
+use Rattle.layout.specs.Layout.{placeSize}
+use Rattle.asdu.specs.declared.command.Command.{Command}
 use Rattle.table.specs.Table.{rising}
 use Rattle.table.specs.Memory.{pointsAt, tableOf, wellFormed}
 use Rattle.table.specs.Change.{stationOf, pointIn, known}
@@ -29,10 +31,10 @@ use Rattle.report.specs.Packing.{joined}
 use Rattle.report.specs.Order.{pointsOf}
 use Rattle.report.specs.Single.{requestedAsdu}
 use Rattle.report.proofs.Single.{length-single}
-use Rattle.answers.specs.System.{addressesIn, pointsAsked}
+use Rattle.answers.specs.System.{addressesIn, pointsAsked, pointsRead}
 use Rattle.reads.specs.declared.Asked.{Asked}
 use Rattle.reads.specs.declared.Asked.the-variants.{Known, AddressMissing}
-use Rattle.reads.specs.Reads.{askedOf, together, askedAt, requestedOf, requestedAt}
+use Rattle.reads.specs.Reads.{askedOf, together, askedAt, requestedOf, requestedAt, requestedBy}
 
 -- ---- the points asked for, one address after another
 
@@ -136,67 +138,63 @@ module _ (m : List ℕ) (first h ca : ℕ) (asdu : List ℕ) (r : rising 0 (poin
 
 -- ---- the laws
 
--- The points that a read command of n objects asks of the station of a CA.
-abbrev pub askedOfStation : List ℕ → ℕ → List ℕ → ℕ → Option (List Point)
-askedOfStation m ca asdu n = pointsAsked (addressesIn asdu headerOctets n) (pointsOf (stationOf ca (tableOf m .stations)))
-
 -- Every address is known: the points, and what the code counts and writes of them.
-pub record Requested (m : List ℕ) (ca first h : ℕ) (asdu : List ℕ) (n octets : ℕ) : Type 0 where
+pub record Requested (m : List ℕ) (first h : ℕ) (c : Command) (asdu : List ℕ) (octets : ℕ) : Type 0 where
   pub points : List Point
-  pub is-asked : askedOfStation m ca asdu n ≡ some points
-  pub is-octets : octets ≡ length (joined (requestedAsdu ca) points)
-  pub is-data : requestedAt m first h ca asdu headerOctets n ≡ joined (requestedAsdu ca) points
+  pub is-asked : pointsRead c asdu (tableOf m) ≡ some points
+  pub is-octets : octets ≡ length (joined (requestedAsdu (c .ca)) points)
+  pub is-data : requestedBy m first h c asdu ≡ joined (requestedAsdu (c .ca)) points
 
-module _ (m : List ℕ) (ca i first h : ℕ) (o : Octets m) (w : wellFormed m ≡ true) (e : seatAt m ca ≡ Here i first h) where
+module _ (m : List ℕ) (i first h : ℕ) (o : Octets m) (w : wellFormed m ≡ true) (c : Command) (e : seatAt m (c .ca) ≡ Here i first h) where
   -- the points at the seat are the station's, and they rise
   seat-rises : rising 0 (pointsAt m first h) ≡ true
-  seat-rises = let z = seat-law m ca i first h o w e in ap (rising 0) (z .points) ∙ z .rises
+  seat-rises = let z = seat-law m (c .ca) i first h o w e in ap (rising 0) (z .points) ∙ z .rises
 
-  seat-points : pointsAt m first h ≡ pointsOf (stationOf ca (tableOf m .stations))
-  seat-points = let z = seat-law m ca i first h o w e in z .points ∙ sym (ap pointsOf (z .seat .is-station))
+  seat-points : pointsAt m first h ≡ pointsOf (stationOf (c .ca) (tableOf m .stations))
+  seat-points = let z = seat-law m (c .ca) i first h o w e in z .points ∙ sym (ap pointsOf (z .seat .is-station))
 
   -- What the code asks of the numbers.
-  pub read-bounds : first + 48 * h ≤ length m
+  pub read-bounds : first + placeSize * h ≤ length m
   read-bounds =
       let p = passed m w in
       let r = p .top .room in
       let few = p .few in
-      let z = seat-law m ca i first h o w e .places in
+      let z = seat-law m (c .ca) i first h o w e .places in
       omega arith
 
-  module _ (asdu : List ℕ) (n : ℕ) where
-    counted-is : askedAt m first h asdu headerOctets n ≡ counted ca (askedOfStation m ca asdu n)
+  module _ (asdu : List ℕ) where
+    counted-is : askedAt m first h asdu headerOctets (c .count) ≡ counted (c .ca) (pointsRead c asdu (tableOf m))
     counted-is =
-        asked-is m first h ca asdu seat-rises headerOctets n
-        ∙ ap (λ (ps : List Point). counted ca (pointsAsked (addressesIn asdu headerOctets n) ps)) seat-points
+        asked-is m first h (c .ca) asdu seat-rises headerOctets (c .count)
+        ∙ ap (λ (ps : List Point). counted (c .ca) (pointsAsked (addressesIn asdu headerOctets (c .count)) ps)) seat-points
 
-    data-is : (qs : List Point) → askedOfStation m ca asdu n ≡ some qs → requestedAt m first h ca asdu headerOctets n ≡ joined (requestedAsdu ca) qs
+    data-is : (qs : List Point) → pointsRead c asdu (tableOf m) ≡ some qs → requestedBy m first h c asdu ≡ joined (requestedAsdu (c .ca)) qs
     data-is qs f =
-        requested-is m first h ca asdu seat-rises headerOctets n qs
-        (ap (λ (ps : List Point). pointsAsked (addressesIn asdu headerOctets n) ps) seat-points ∙ f)
+        requested-is m first h (c .ca) asdu seat-rises headerOctets (c .count) qs
+        (ap (λ (ps : List Point). pointsAsked (addressesIn asdu headerOctets (c .count)) ps) seat-points ∙ f)
 
     -- The octets were counted: every address is known, and these are the points.
-    pub requested-law : (octets : ℕ) → Known octets ≡ askedAt m first h asdu headerOctets n → Requested m ca first h asdu n octets
+    pub requested-law : (octets : ℕ) → Known octets ≡ askedAt m first h asdu headerOctets (c .count) → Requested m first h c asdu octets
     unfolding counted
-    requested-law octets f = by-asked (askedOfStation m ca asdu n) refl (f ∙ counted-is)
+    requested-law octets f = by-asked (pointsRead c asdu (tableOf m)) refl (f ∙ counted-is)
       where
-        by-asked : (x : Option (List Point)) → askedOfStation m ca asdu n ≡ x → Known octets ≡ counted ca x → Requested m ca first h asdu n octets
+        by-asked : (x : Option (List Point)) → pointsRead c asdu (tableOf m) ≡ x → Known octets ≡ counted (c .ca) x → Requested m first h c asdu octets
         by-asked none d g = let z : _≡_ {A = ℕ} 0 1 = cc in absurd (omega arith)
         by-asked (some qs) d g = record { points = qs; is-asked = d; is-octets = cc; is-data = data-is qs d }
 
     -- An address is missing: no points are asked for.
-    pub missing-address-law : AddressMissing ≡ askedAt m first h asdu headerOctets n → askedOfStation m ca asdu n ≡ none
+    pub missing-address-law : AddressMissing ≡ askedAt m first h asdu headerOctets (c .count) → pointsRead c asdu (tableOf m) ≡ none
     unfolding counted
-    missing-address-law f = by-asked (askedOfStation m ca asdu n) refl (f ∙ counted-is)
+    missing-address-law f = by-asked (pointsRead c asdu (tableOf m)) refl (f ∙ counted-is)
       where
-        by-asked : (x : Option (List Point)) → askedOfStation m ca asdu n ≡ x → AddressMissing ≡ counted ca x → askedOfStation m ca asdu n ≡ none
+        by-asked : (x : Option (List Point)) → pointsRead c asdu (tableOf m) ≡ x → AddressMissing ≡ counted (c .ca) x → pointsRead c asdu (tableOf m) ≡ none
         by-asked none d g = d
         by-asked (some qs) d g = let z : _≡_ {A = ℕ} 0 1 = cc in absurd (omega arith)
 
 -- A CA that is not planned, CA 65,535 too: the first address is missing.
-pub unplanned-read-law : (m : List ℕ) (ca : ℕ) (asdu : List ℕ) (n : ℕ) → seatAt m ca ≡ NotPlanned → 0 < n → askedOfStation m ca asdu n ≡ none
+pub unplanned-read-law : (m : List ℕ) (c : Command) (asdu : List ℕ) → seatAt m (c .ca) ≡ NotPlanned → 0 < c .count → pointsRead c asdu (tableOf m) ≡ none
 unfolding addressesIn pointIn
-unplanned-read-law m ca asdu n e some-there =
-    let k : n ≡ suc (n - 1) = omega arith in
-    (λ j. pointsAsked (addressesIn asdu headerOctets (k j)) (pointsOf (absent-law m ca e j)))
-    ∙ asked-none (three asdu headerOctets) (addressesIn asdu (headerOctets + addressOctets) (n - 1)) [] refl
+unplanned-read-law m c asdu e some-there =
+    let k : c .count ≡ suc (c .count - 1) = omega arith in
+    (λ j. pointsAsked (addressesIn asdu headerOctets (k j)) (pointsOf (absent-law m (c .ca) e j)))
+    ∙ asked-none (three asdu headerOctets) (addressesIn asdu (headerOctets + addressOctets) (c .count - 1)) [] refl

@@ -34,8 +34,8 @@ nothing-found m out ca o at x e =
     let l : length (requestedOf m ca x) ≡ 0 = ap length q in
     (omega arith, sym (ap (over out o) q ∙ over-nothing out o))
 
-module _ (m : List ℕ) (first h ca : ℕ) (asdu out₀ whole out : List ℕ) (o at left : ℕ)
-    (log : Log out₀ 0 whole out o (requestedAt m first h ca asdu at left)) (fits : length whole ≤ length out₀) where
+module _ (m : List ℕ) (first h ca : ℕ) (asdu out₀ whole out : List ℕ) (from o at left : ℕ)
+    (log : Log out₀ from whole out o (requestedAt m first h ca asdu at left)) (fits : from + length whole ≤ length out₀) where
   module _ (more : 0 < left) where
     abbrev next : List ℕ
     next = requestedOf m ca (findAt m first h (three asdu at))
@@ -43,25 +43,25 @@ module _ (m : List ℕ) (first h ca : ℕ) (asdu out₀ whole out : List ℕ) (o
     -- The next one fits.
     pub next-fits : o + length (requestedOf m ca (findAt m first h (three asdu at))) ≤ length out
     next-fits =
-        let r : o + length (requestedAt m first h ca asdu at left) ≤ length out = log-room out₀ whole out _ 0 o log (omega arith) in
+        let r : o + length (requestedAt m first h ca asdu at left) ≤ length out = log-room out₀ whole out _ from o log (omega arith) in
         let e : length (requestedAt m first h ca asdu at left) ≡ length next + length (requestedAt m first h ca asdu (at + 3) (left - 1)) =
         ap length (requested-on m first h asdu at left more ca) ∙ length-append next _ in
         omega arith
 
     -- It goes in.
     pub next-in : (ioa r : ℕ) (out′ : List ℕ) → ioa ≡ three asdu at → r ≡ o + length (requestedOf m ca (findAt m first h ioa))
-        → out′ ≡ over out o (requestedOf m ca (findAt m first h ioa)) → Log out₀ 0 whole out′ r (requestedAt m first h ca asdu (at + 3) (left - 1))
+        → out′ ≡ over out o (requestedOf m ca (findAt m first h ioa)) → Log out₀ from whole out′ r (requestedAt m first h ca asdu (at + 3) (left - 1))
     next-in ioa r out′ i er eo =
         let todo : List ℕ = requestedAt m first h ca asdu (at + 3) (left - 1) in
-        let l : Log out₀ 0 whole out o (next ++ todo) = subst (λ (x : List ℕ). Log out₀ 0 whole out o x) (requested-on m first h asdu at left more ca) log in
-        let s : Log out₀ 0 whole (over out o next) (o + length next) todo = log-step out₀ whole out next todo 0 o l next-fits in
+        let l : Log out₀ from whole out o (next ++ todo) = subst (λ (x : List ℕ). Log out₀ from whole out o x) (requested-on m first h asdu at left more ca) log in
+        let s : Log out₀ from whole (over out o next) (o + length next) todo = log-step out₀ whole out next todo from o l next-fits in
         let er′ : r ≡ o + length next = er ∙ ap (λ (x : ℕ). o + length (requestedOf m ca (findAt m first h x))) i in
         let eo′ : out′ ≡ over out o next = eo ∙ ap (λ (x : ℕ). over out o (requestedOf m ca (findAt m first h x))) i in
-        subst (λ (x : ℕ). Log out₀ 0 whole out′ x todo) (sym er′) (subst (λ (x : List ℕ). Log out₀ 0 whole x (o + length next) todo) (sym eo′) s)
+        subst (λ (x : ℕ). Log out₀ from whole out′ x todo) (sym er′) (subst (λ (x : List ℕ). Log out₀ from whole x (o + length next) todo) (sym eo′) s)
 
   -- All is in.
-  pub all-in : left ≤ 0 → (o ≡ length whole) × (out ≡ over out₀ 0 whole)
+  pub all-in : left ≤ 0 → (o ≡ from + length whole) × (out ≡ over out₀ from whole)
   all-in none-left =
-      let l : Log out₀ 0 whole out o [] = subst (λ (x : List ℕ). Log out₀ 0 whole out o x) (requested-end m first h asdu at left ca none-left) log in
-      let e = log-end out₀ whole out 0 o l (omega arith) in
+      let l : Log out₀ from whole out o [] = subst (λ (x : List ℕ). Log out₀ from whole out o x) (requested-end m first h asdu at left ca none-left) log in
+      let e = log-end out₀ whole out from o l (omega arith) in
       (let z = e .0 in omega arith, e .1)

@@ -1,10 +1,13 @@
 -- ---- as the code runs: nobody need believe what follows, the laws in proofs/Entry.antt tie it to `pointsAsked` and `requestedAsdu`
+use mathlib.Core.Path.{_≡_}
 use Prim.Native.Nat.{ℕ, zero, suc, _+_}
 use mathlib.Core.List.{List, [], _++_}
-use lib.ListN.{getD}
-use Rattle.limits.specs.Size.{pointOctets, addressOctets}
+use lib.ListN.{length, getD}
+use Rattle.limits.specs.Size.{pointOctets, headerOctets, addressOctets}
 use Rattle.octets.specs.Number.{three}
+use Rattle.octets.specs.Over.{over}
 use Rattle.model.specs.Place.{pointAt}
+use Rattle.asdu.specs.declared.command.Command.{Command}
 use Rattle.seats.specs.declared.Spot.{Spot}
 use Rattle.seats.specs.declared.Spot.the-variants.{Held, Missing}
 use Rattle.seats.specs.Find.{findAt}
@@ -14,7 +17,7 @@ use Rattle.reads.specs.declared.Asked.the-variants.{Known, AddressMissin
 
 -- the octets of the requested ASDU of the point at a place: nine and its element
 unfoldable pub askedOf : List ℕ → Spot → Asked
-askedOf m (Held at) = Known (9 + pointOctets (getD m at 0))
+askedOf m (Held at) = Known (headerOctets + addressOctets + pointOctets (getD m at 0))
 askedOf m (Missing at) = AddressMissing
 
 -- both together, missing where one is
@@ -38,3 +41,11 @@ unfoldable pub requestedAt : List ℕ → ℕ → ℕ → ℕ → List ℕ → �
 requestedAt m first h ca asdu at zero = []
 requestedAt m first h ca asdu at (suc n) =
     requestedOf m ca (findAt m first h (three asdu at)) ++ requestedAt m first h ca asdu (at + addressOctets) n
+
+-- those of a command's objects
+abbrev pub requestedBy : List ℕ → ℕ → ℕ → Command → List ℕ → List ℕ
+requestedBy m first h c asdu = requestedAt m first h (c .ca) asdu headerOctets (c .count)
+
+-- octets are written from `o` on, and the place after the last comes back
+abbrev pub PutsAt : ℕ → List ℕ → List ℕ → ℕ → List ℕ → Type 0
+PutsAt o xs before r after = (r ≡ o + length xs) × (after ≡ over before o xs)

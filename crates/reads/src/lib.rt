@@ -1,4 +1,5 @@
 // The data of a read command: sized first, then written, one ASDU for each object in the command's order. From `handle_read` of `system_command_handler.rs` and `monitoring_asdu_requested` of `output.rs`.
+use asdu::command::Command;
 use asdu::cot::REQUEST;
 use limits::size::ADDRESS_OCTETS;
 use limits::size::HEADER_OCTETS;
@@ -6,9 +7,11 @@ use seats::Spot;
 ghost use mathlib.Core.Path.{_≡_};
 ghost use Prim.Native.Nat.{_+_, _*_, _≤_};
 ghost use lib.ListN.{length};
+ghost use Rattle.limits.specs.Size.{headerOctets, countLimit};
+ghost use Rattle.layout.specs.Layout.{placeSize};
+ghost use Rattle.asdu.specs.Command.{objectAt};
 ghost use Rattle.seats.specs.Find.{findAt};
-ghost use Rattle.octets.specs.Over.{over};
-ghost use Rattle.reads.specs.Reads.{askedOf, askedAt, requestedOf, requestedAt};
+ghost use Rattle.reads.specs.Reads.{askedOf, askedAt, requestedOf, requestedBy, PutsAt};
 
 // What a read command asks for: the octets of all requested ASDUs together, or an address that no point has.
 pub enum Asked {
@@ -18,7 +21,7 @@ pub enum Asked {
 
 // The octets of the requested ASDU of the point with an IOA among the h places from `first`: header, address and element.
 fn found_octets(m: &[u8], first: usize, h: usize, ioa: usize) -> Asked
-    requires { ⌜ first + 48 * h ≤ length (now m) ⌝ }
+    requires { ⌜ first + placeSize * h ≤ length (now m) ⌝ }
     ensures { λ r. ⌜ r ≡ askedOf (now (m .entry)) (findAt (now (m .entry)) first h ioa) ⌝ }
 {
     let spot = seats::find(m, first, h, ioa);
@@ -30,14 +33,14 @@ fn found_octets(m: &[u8], first: usize, h: usize, ioa: usize) -> Asked
     }
 }
 
-// The octets of the requested ASDUs of a command's `count` objects, repeats included, from the h places from `first`.
-pub fn read_octets(m: &[u8], first: usize, h: usize, asdu: &[u8], count: usize) -> Asked
-    requires { ⌜ (first + 48 * h ≤ length (now m)) × (6 + 3 * count ≤ length (now asdu)) × (count ≤ 127) ⌝ }
-    ensures { λ r. ⌜ r ≡ askedAt (now (m .entry)) first h (now (asdu .entry)) 6 count ⌝ }
+// The octets of the requested ASDUs of a command's objects, repeats included, from the h places from `first`.
+pub fn read_octets(m: &[u8], first: usize, h: usize, command: Command, asdu: &[u8]) -> Asked
+    requires { ⌜ (first + placeSize * h ≤ length (now m)) × (objectAt 0 (command .count) ≤ length (now asdu)) × (command .count ≤ countLimit) ⌝ }
+    ensures { λ r. ⌜ r ≡ askedAt (now (m .entry)) first h (now (asdu .entry)) headerOctets (command .count) ⌝ }
 {
     let mut octets = 0;
     let mut at = HEADER_OCTETS;
-    let mut left = count;
+    let mut left = command.count;
     while 0 < left {
         let ioa = octets::three_at(asdu, at);
         let Asked::Known(more) = found_octets(m, first, h, ioa) else {
@@ -60,8 +63,8 @@ fn put_found(
     ioa: usize,
     ca: u16,
 ) -> usize
-    requires { ⌜ (first + 48 * h ≤ length (now m)) × (o + length (requestedOf (now m) ca (findAt (now m) first h ioa)) ≤ length (now out)) ⌝ }
-    ensures { λ r. ⌜ (r ≡ o + length (requestedOf (now (m .entry)) ca (findAt (now (m .entry)) first h ioa))) × (now (out .exit) ≡ over (now (out .entry)) o (requestedOf (now (m .entry)) ca (findAt (now (m .entry)) first h ioa))) ⌝ }
+    requires { ⌜ (first + placeSize * h ≤ length (now m)) × (o + length (requestedOf (now m) ca (findAt (now m) first h ioa)) ≤ length (now out)) ⌝ }
+    ensures { λ r. ⌜ PutsAt o (requestedOf (now (m .entry)) ca (findAt (now (m .entry)) first h ioa)) (now (out .entry)) r (now (out .exit)) ⌝ }
 {
     let Spot::Held(at) = seats::find(m, first, h, ioa) else {
         return o;
@@ -69,25 +72,27 @@ fn put_found(
     output::single::put_single(out, o, REQUEST, ca, m, at)
 }
 
-// Writes the requested ASDUs of a command's `count` objects, repeats included, one after another at the front of `out`, and gives their octets.
+// Writes the requested ASDUs of a command's objects, repeats included, one after another into what remains of `out` after `from`, and gives the place
+// after the last octet.
 pub fn put_requested(
     out: &mut [u8],
+    from: usize,
     m: &[u8],
     first: usize,
     h: usize,
+    command: Command,
     asdu: &[u8],
-    count: usize,
-    ca: u16,
 ) -> usize
-    requires { ⌜ (first + 48 * h ≤ length (now m)) × (6 + 3 * count ≤ length (now asdu)) × (length (requestedAt (now m) first h ca (now asdu) 6 count) ≤ length (now out)) ⌝ }
-    ensures { λ r. ⌜ (r ≡ length (requestedAt (now (m .entry)) first h ca (now (asdu .entry)) 6 count)) × (now (out .exit) ≡ over (now (out .entry)) 0 (requestedAt (now (m .entry)) first h ca (now (asdu .entry)) 6 count)) ⌝ }
+    requires { ⌜ (first + placeSize * h ≤ length (now m)) × (objectAt 0 (command .count) ≤ length (now asdu)) ⌝ }
+    requires { ⌜ from + length (requestedBy (now m) first h command (now asdu)) ≤ length (now out) ⌝ }
+    ensures { λ r. ⌜ PutsAt from (requestedBy (now (m .entry)) first h command (now (asdu .entry))) (now (out .entry)) r (now (out .exit)) ⌝ }
 {
-    let mut o = 0;
+    let mut o = from;
     let mut at = HEADER_OCTETS;
-    let mut left = count;
+    let mut left = command.count;
     while 0 < left {
         let ioa = octets::three_at(asdu, at);
-        o = put_found(out, o, m, first, h, ioa, ca);
+        o = put_found(out, o, m, first, h, ioa, command.ca);
         at += ADDRESS_OCTETS;
         left -= 1;
     }

@@ -5,6 +5,7 @@ use mathlib.Core.Bool.{Bool}
 use lib.ListN.{getD, replicate}
 use Rattle.limits.specs.Test.{_&_, pick}
 use Rattle.octets.specs.Over.{over}
+use Rattle.layout.specs.Layout.{placeSize, valueOffset}
 use Rattle.model.specs.Place.{isCounter, pointAt}
 use Rattle.report.specs.declared.Selection.{Selection}
 use Rattle.report.specs.Selection.{selects}
@@ -15,9 +16,9 @@ takesAt sel m at = isCounter (getD m at 0) & selects sel (pointAt m at)
 
 -- the place at `at` with its counter's reading, the first four octets of its value, set to 0 where the selection takes it
 unfoldable pub resetPlace : Selection → List ℕ → ℕ → List ℕ
-resetPlace sel m at = pick (takesAt sel m at) (over m (at + 10) (replicate 4 0)) m
+resetPlace sel m at = pick (takesAt sel m at) (over m (at + valueOffset) (replicate 4 0)) m
 
 -- the same of n places from `at`
 unfoldable pub resetPlaces : Selection → List ℕ → ℕ → ℕ → List ℕ
 resetPlaces sel m at zero = m
-resetPlaces sel m at (suc n) = resetPlaces sel (resetPlace sel m at) (at + 48) n
+resetPlaces sel m at (suc n) = resetPlaces sel (resetPlace sel m at) (at + placeSize) n

@@ -1,59 +1,43 @@
 -- The answer fits, or it does not. Assumes nothing.
-use mathlib.Core.Path.{_≡_, sym, ap, _∙_}
-use Prim.Native.Nat.{ℕ, _+_, _≤_, _<_}
-use lib.ListN.{length}
 use denote.Ref.{now}
-use Rattle.asdu.proofs.Lengths.{length-confirmation, length-echo}
-use Rattle.asdu.specs.Confirmation.{confirmation, echo}
-use Rattle.confirming.specs.Sending.{given}
-use Rattle.confirming.proofs.Laws.{short-sent, full-sent}
-use Rattle.confirming.specs.Sending.{nothing, given}
+use Rattle.asdu.specs.Confirmation.{echo}
+use Rattle.asdu.proofs.Lengths.{length-echo}
+use Rattle.answers.proofs.Ends.{sends-nothing, sends-all}
 use borrow.Author.Needs.{needs}
 use native.Mathlib.Omega.{arith}
 use Rattle.confirming.proofs.echo.Statement.{statement}
 use Rattle.confirming.proofs.echo.Tie as tie
 
-short-requires : tie.Need-short-requires
-short-requires c κs = search needs
+nothing-requires : tie.Need-nothing-requires
+nothing-requires c κs = search needs
 
 returns : tie.Need-returns
 returns c =
-    let a = c .before .before .before .before .args in
-    let m = now (a .asdu) in
-    let out = now (a .answer) in
-    let l = length-echo (a .command) m (a .cause) (a .negative) (c .before .before .before .before .pre .1) in
-    let X = echo (a .command) m (a .cause) (a .negative) in
-    let h : length out < length X = omega arith in
-    let z = short-sent X out h in
-    (c .short .ensures ∙ z .0, z .1)
+    let start = c .before .before .before .before in
+    let a = start .args in
+    let l = length-echo (a .command) (now (a .asdu)) 7 (a .negative) (start .pre) in
+    rw (c .nothing .ensures) (sends-nothing (echo (a .command) (now (a .asdu)) 7 (a .negative)) (now (a .answer)) (omega arith))
 
 put-echo-requires : tie.Need-put-echo-requires
 put-echo-requires c κs =
-    let a = c .before .before .before .before .args in
-    let m = now (a .asdu) in
-    let out = now (a .answer) in
-    let l = length-echo (a .command) m (a .cause) (a .negative) (c .before .before .before .before .pre .1) in
-    let X = echo (a .command) m (a .cause) (a .negative) in
-    (c .before .before .before .before .pre .0, c .before .before .before .before .pre .1, omega arith)
+    let start = c .before .before .before .before in
+    let a = start .args in
+    let l = length-echo (a .command) (now (a .asdu)) 7 (a .negative) (start .pre) in
+    (omega arith, start .pre, omega arith)
 
-done-requires : tie.Need-done-requires
-done-requires c κs = search needs
+given-requires : tie.Need-given-requires
+given-requires c κs = search needs
 
 same-length : tie.Need-same-length
 same-length c = search needs
 
 returns-2 : tie.Need-returns-2
 returns-2 c =
-    let a = c .before .before .before .before .before .before .before .before .args in
-    let m = now (a .asdu) in
-    let out = now (a .answer) in
-    let l = length-echo (a .command) m (a .cause) (a .negative) (c .before .before .before .before .before .before .before .before .pre .1) in
-    let X = echo (a .command) m (a .cause) (a .negative) in
-    let h : length X ≤ length out = omega arith in
-    let z = full-sent X out _ _ h (c .before .before .before .put-echo .ensures .0) (c .before .before .before .put-echo .ensures .1) in
-    (c .done .ensures ∙ z .0, z .1)
+    let start = c .before .before .before .before .before .before .before .before in
+    let a = start .args in
+    let l = length-echo (a .command) (now (a .asdu)) 7 (a .negative) (start .pre) in
+    let e = c .before .before .before .put-echo .ensures in
+    rw (c .given .ensures) (sends-all (echo (a .command) (now (a .asdu)) 7 (a .negative)) (now (a .answer)) _ _ (omega arith) (e .0) (e .1))
 
 pub echo-spec : {M : Type 1} → statement M
-echo-spec =
-    tie.close
-    (tie.spec short-requires returns put-echo-requires done-requires same-length returns-2)
+echo-spec = tie.close (tie.spec nothing-requires returns put-echo-requires given-requires same-length returns-2)

@@ -1,21 +1,9 @@
 -- The part lent is written at its front. Assumes nothing.
-use mathlib.Core.Path.{_≡_, sym, ap, _∙_}
-use Prim.Native.Nat.{ℕ, _+_, _≤_, _<_}
-use lib.ListN.{length}
+use mathlib.Core.Bool.{false}
 use denote.Ref.{now}
-use Rattle.asdu.proofs.Lengths.{length-confirmation, length-echo}
-use Rattle.asdu.specs.Confirmation.{confirmation, echo}
-use Rattle.confirming.specs.Sending.{given}
-use Rattle.confirming.proofs.Laws.{short-sent, full-sent}
 use Rattle.octets.proofs.Laws.{lent-over}
-use Rattle.octets.specs.Over.{over}
-use mathlib.Core.Bool.{true, false}
-use mathlib.Core.List.{List}
-use mathlib.Core.Path.{refl}
-use Rattle.limits.specs.Size.{standardLimit}
-use Rattle.output.specs.Data.{dataOf}
-use Rattle.confirming.specs.Sending.{whole}
-use Rattle.confirming.proofs.Laws.{between, data-short, data-full, length-whole}
+use Rattle.asdu.proofs.Lengths.{length-confirmation}
+use Rattle.answers.specs.System.{terminated}
 use borrow.Author.Needs.{needs}
 use native.Mathlib.Omega.{arith}
 use Rattle.confirming.proofs.put_termination.Statement.{statement}
@@ -32,20 +20,20 @@ part-put-confirmation-end c = search needs
 
 put-confirmation-requires : tie.Need-put-confirmation-requires
 put-confirmation-requires c κs =
-    let a = c .before .before .before .args in
-    let m = now (a .asdu) in
-    let l = length-confirmation (a .command) m 10 false (c .before .before .before .pre .1) in
-    (omega arith, c .before .before .before .pre .1, omega arith)
+    let start = c .before .before .before in
+    let a = start .args in
+    let l = length-confirmation (a .command) (now (a .asdu)) 10 false (start .pre .0 .1) in
+    (omega arith, start .pre .0 .1, omega arith)
 
 same-length : tie.Need-same-length
 same-length c = search needs
 
 returns : tie.Need-returns
 returns c =
-    let a = c .before .before .before .before .before .before .args in
-    let m = now (a .asdu) in
-    let l = length-confirmation (a .command) m 10 false (c .before .before .before .before .before .before .pre .1) in
-    rw (c .before .before .put-confirmation .ensures .1) (lent-over (now (a .answer)) (confirmation (a .command) m 10 false) (a .at) (omega arith))
+    let start = c .before .before .before .before .before .before in
+    let a = start .args in
+    let l = length-confirmation (a .command) (now (a .asdu)) 10 false (start .pre .0 .1) in
+    rw (c .before .before .put-confirmation .ensures .1) (lent-over (now (a .answer)) (terminated (a .command) (now (a .asdu))) (a .at) (omega arith))
 
 pub put-termination-spec : {M : Type 1} → statement M
 put-termination-spec =

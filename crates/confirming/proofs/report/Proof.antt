@@ -1,31 +1,88 @@
 -- The data are written if the whole fits, then what stands before and after them. Assumes nothing.
 use mathlib.Core.Path.{_≡_, sym, ap, _∙_}
-use Prim.Native.Nat.{ℕ, _+_, _≤_, _<_}
+use mathlib.Core.Bool.{false}
+use mathlib.Core.List.{List}
+use Prim.Native.Nat.{ℕ, _+_, _≤_}
 use lib.ListN.{length}
 use denote.Ref.{now}
-use Rattle.asdu.proofs.Lengths.{length-confirmation, length-echo}
-use Rattle.asdu.specs.Confirmation.{confirmation, echo}
-use Rattle.confirming.specs.Sending.{given}
-use Rattle.confirming.proofs.Laws.{short-sent, full-sent}
-use Rattle.octets.proofs.Laws.{lent-over}
-use Rattle.octets.specs.Over.{over}
-use mathlib.Core.Bool.{true, false}
-use mathlib.Core.List.{List}
-use mathlib.Core.Path.{refl}
-use Rattle.limits.specs.Size.{standardLimit}
-use Rattle.output.specs.Data.{dataOf}
-use Rattle.confirming.specs.Sending.{whole}
-use Rattle.confirming.proofs.Laws.{between, data-short, data-full, length-whole}
+use Rattle.octets.specs.Number.{Octets}
+use Rattle.table.specs.Memory.{tableOf}
+use Rattle.table.specs.Settings.{limitOf}
+use Rattle.table.proofs.Parse.{passed}
+use Rattle.asdu.proofs.Lengths.{length-confirmation}
+use Rattle.output.specs.declared.reach.Reach.{Reach}
+use Rattle.output.specs.Data.{dataOf, dataFor, wrote, written}
+use Rattle.output.proofs.Reached.{reached, data-is}
+use Rattle.confirming.specs.Sending.{beforeElement}
+use Rattle.confirming.proofs.Laws.{no-room, has-room, all-written}
 use borrow.Author.Needs.{needs}
 use native.Mathlib.Omega.{arith}
 use Rattle.confirming.proofs.report.Statement.{statement}
 use Rattle.confirming.proofs.report.Tie as tie
 
+-- the data that the command asks for, and the octets before and after them
+abbrev dataIn : tie.Start → List ℕ
+dataIn s =
+    dataFor (limitOf (tableOf (now (s .args .table)))) (now (s .args .types)) (s .args .cause) (s .args .command .ca) (s .args .selection)
+    (tableOf (now (s .args .table)) .stations)
+
+abbrev aroundIn : tie.Start → ℕ
+aroundIn s = beforeElement + s .args .command .element
+
+-- the data that are written are those
+same-data : (c : tie.After-put-data) →
+    (c .put-data .result ≡ wrote (length (now (c .before .before .before .before .before .before .before .before .before .args .answer))) (aroundIn (c .before .before .before .before .before .before .before .before .before)) (aroundIn (c .before .before .before .before .before .before .before .before .before)) (dataIn (c .before .before .before .before .before .before .before .before .before)))
+    × (c .put-data .last .0 ≡ written (now (c .before .before .before .before .before .before .before .before .before .args .answer)) (aroundIn (c .before .before .before .before .before .before .before .before .before)) (aroundIn (c .before .before .before .before .before .before .before .before .before)) (dataIn (c .before .before .before .before .before .before .before .before .before)))
+same-data c =
+    let start = c .before .before .before .before .before .before .before .before .before in
+    let a = start .args in
+    let t = now (a .table) in
+    let o : Octets t = λ k. omega (arith, c .before .before .before .before .before .before .before .shared-slice-known .given k) in
+    let r = c .before .before .before .reach-of in
+    let n = c .before .before .before .before .limit-of .ensures .0 in
+    let d =
+    (λ j. dataOf (n j) (now (a .types)) (a .cause) (a .command .ca) (a .selection) (r .result .every) t (r .result .base) (r .result .n))
+    ∙ data-is (limitOf (tableOf t)) (now (a .types)) (a .cause) (a .command .ca) (a .selection) t (r .result) (r .ensures) o (start .pre .0) in
+    let e = c .put-data .ensures in
+    let out = now (a .answer) in
+    (e .0 ∙ ap (wrote (length out) (aroundIn start) (aroundIn start)) d, e .1 ∙ ap (written out (aroundIn start) (aroundIn start)) d)
+
+-- the whole fits
+room : (c : tie.After-octets) → aroundIn (c .before .before .before .before .before .before .before .before .before .before .before .before .before) + (c .octets .given .0 .0 + aroundIn (c .before .before .before .before .before .before .before .before .before .before .before .before .before)) ≤ length (now (c .before .before .before .before .before .before .before .before .before .before .before .before .before .args .answer))
+room c =
+    let start = c .before .before .before .before .before .before .before .before .before .before .before .before .before in
+    let a = start .args in
+    has-room (tableOf (now (a .table))) (a .command) (now (a .asdu)) (now (a .types)) (a .cause) (a .selection) (now (a .answer)) (start .pre .4 .1) _
+    (sym (same-data (c .before .before .before .before) .0) ∙ c .octets .given .1)
+
+limit-of-requires : tie.Need-limit-of-requires
+limit-of-requires c κs = search needs
+
+reach-of-requires : tie.Need-reach-of-requires
+reach-of-requires c κs =
+    let p = passed (now (c .before .before .before .before .before .args .table)) (c .before .before .before .before .before .pre .0) .top in
+    (p .s-high, p .room)
+
 add-before : tie.Need-add-before
 add-before c = search needs
 
+add-before-2 : tie.Need-add-before-2
+add-before-2 c = search needs
+
 put-data-requires : tie.Need-put-data-requires
-put-data-requires c κs = search needs
+put-data-requires c κs =
+    let start = c .before .before .before .before .before .before .before .before in
+    let t = now (start .args .table) in
+    let o : Octets t = λ k. omega (arith, c .before .before .before .before .before .before .shared-slice-known .given k) in
+    let e = c .before .before .reach-of .ensures in
+    let eb = ap (λ (x : Reach). x .base) e in
+    let en = ap (λ (x : Reach). x .n) e in
+    let z = reached t (start .args .command .ca) o (start .pre .0) in
+    let lies = z .lies in
+    let few = z .few in
+    let l = c .before .before .before .limit-of .ensures in
+    let p = start .pre in
+    (omega arith, omega arith, omega arith, omega arith, l .1, l .2, p .1, p .2, p .3)
 
 enum-known-octets : tie.Need-enum-known-octets
 enum-known-octets c = search needs
@@ -33,136 +90,90 @@ enum-known-octets c = search needs
 enum-told : tie.Need-enum-told
 enum-told c = search needs
 
-short-requires : tie.Need-short-requires
-short-requires c κs = search needs
+nothing-requires : tie.Need-nothing-requires
+nothing-requires c κs = search needs
 
 same-length : tie.Need-same-length
 same-length c = search needs
 
 returns : tie.Need-returns
 returns c =
-    let a = c .before .before .before .before .before .before .before .before .before .before .before .before .args in
-    let m = now (a .asdu) in
-    let out = now (a .answer) in
-    let D = dataOf standardLimit (now (a .types)) (a .cause) (a .command .ca) (a .s) (a .every) (now (a .table)) (a .base) (a .n) in
-    let k = c .before .before .before .before .before .put-data .ensures .0 in
-    let s = data-short out (9 + a .command .element) (9 + a .command .element) D (sym k ∙ c .before .enum-told .given .1) in
-    let l = length-whole (now (a .types)) (a .cause) (a .s) (a .every) (now (a .table)) (a .base) (a .n) (a .command) m (c .before .before .before .before .before .before .before .before .before .before .before .before .pre .6) in
-    let h = s .0 in
-    let z = short-sent (whole (now (a .types)) (a .cause) (a .s) (a .every) (now (a .table)) (a .base) (a .n) (a .command) m) out (omega arith) in
-    (c .short .ensures ∙ z .0, c .before .before .before .before .before .put-data .ensures .1 ∙ sym (s .1) ∙ z .1)
+    let start = c .before .before .before .before .before .before .before .before .before .before .before .before .before .before in
+    let d = same-data (c .before .before .before .before .before) in
+    let a = start .args in
+    rw (c .nothing .ensures)
+    (no-room (tableOf (now (a .table))) (a .command) (now (a .asdu)) (now (a .types)) (a .cause) (a .selection) (now (a .answer)) (start .pre .4 .1) (sym (d .0) ∙ c .before .enum-told .given .1) _ (d .1))
 
 put-confirmation-requires : tie.Need-put-confirmation-requires
 put-confirmation-requires c κs =
-    let a = c .before .before .before .before .before .before .before .before .before .before .before .before .before .args in
-    let m = now (a .asdu) in
-    let out = now (a .answer) in
-    let D = dataOf standardLimit (now (a .types)) (a .cause) (a .command .ca) (a .s) (a .every) (now (a .table)) (a .base) (a .n) in
-    let k = c .before .before .before .before .before .before .put-data .ensures .0 in
-    let f = data-full out (9 + a .command .element) (9 + a .command .element) _ D (sym k ∙ c .before .before .octets .given .1) in
-    let l = length-confirmation (a .command) m 7 false (c .before .before .before .before .before .before .before .before .before .before .before .before .before .pre .6) in
-    let h = f .1 in
-    let q = c .before .before .before .before .before .before .put-data .kept .0 in
-    (omega arith, c .before .before .before .before .before .before .before .before .before .before .before .before .before .pre .6, omega arith)
+    let start = c .before .before .before .before .before .before .before .before .before .before .before .before .before .before .before in
+    let fits = room (c .before .before) in
+    let l = length-confirmation (start .args .command) (now (start .args .asdu)) 7 false (start .pre .4 .1) in
+    let kept = c .before .before .before .before .before .before .put-data .kept .0 in
+    (omega arith, start .pre .4 .1, omega arith)
 
 add-put-termination : tie.Need-add-put-termination
 add-put-termination c =
-    let a = c .before .before .before .before .before .before .before .before .before .before .before .before .before .before .before .before .before .args in
-    let m = now (a .asdu) in
-    let out = now (a .answer) in
-    let D = dataOf standardLimit (now (a .types)) (a .cause) (a .command .ca) (a .s) (a .every) (now (a .table)) (a .base) (a .n) in
-    let k = c .before .before .before .before .before .before .before .before .before .before .put-data .ensures .0 in
-    let f = data-full out (9 + a .command .element) (9 + a .command .element) _ D (sym k ∙ c .before .before .before .before .before .before .octets .given .1) in
-    let h = f .1 in
-    let e = f .0 in
-    let g = c .before .before .before .before .before .before .before .before .before .before .before .before .before .before .before .before .before .good in
+    let start = c .before .before .before .before .before .before .before .before .before .before .before .before .before .before .before .before .before .before .before in
+    let fits = room (c .before .before .before .before .before .before) in
+    let fit = start .good in
     omega arith
 
 put-termination-requires : tie.Need-put-termination-requires
 put-termination-requires c κs =
-    let a = c .before .before .before .before .before .before .before .before .before .before .before .before .before .before .before .before .before .args in
-    let m = now (a .asdu) in
-    let out = now (a .answer) in
-    let D = dataOf standardLimit (now (a .types)) (a .cause) (a .command .ca) (a .s) (a .every) (now (a .table)) (a .base) (a .n) in
-    let k = c .before .before .before .before .before .before .before .before .before .before .put-data .ensures .0 in
-    let f = data-full out (9 + a .command .element) (9 + a .command .element) _ D (sym k ∙ c .before .before .before .before .before .before .octets .given .1) in
-    let h = f .1 in
-    let e = f .0 in
-    let q = c .before .before .before .before .before .before .before .before .before .before .put-data .kept .0 in
-    let r = c .before .before .before .put-confirmation .kept .0 in
-    (c .before .before .before .before .before .before .before .before .before .before .before .before .before .before .before .before .before .pre .5, c .before .before .before .before .before .before .before .before .before .before .before .before .before .before .before .before .before .pre .6, omega arith)
+    let start = c .before .before .before .before .before .before .before .before .before .before .before .before .before .before .before .before .before .before .before in
+    let fits = room (c .before .before .before .before .before .before) in
+    let kept = c .before .before .before .before .before .before .before .before .before .before .put-data .kept .0 in
+    let again = c .before .before .before .put-confirmation .kept .0 in
+    (start .pre .4, omega arith)
 
-add-done : tie.Need-add-done
-add-done c =
-    let a = c .before .before .before .before .before .before .before .before .before .before .before .before .before .before .before .before .before .before .before .before .args in
-    let m = now (a .asdu) in
-    let out = now (a .answer) in
-    let D = dataOf standardLimit (now (a .types)) (a .cause) (a .command .ca) (a .s) (a .every) (now (a .table)) (a .base) (a .n) in
-    let k = c .before .before .before .before .before .before .before .before .before .before .before .before .before .put-data .ensures .0 in
-    let f = data-full out (9 + a .command .element) (9 + a .command .element) _ D (sym k ∙ c .before .before .before .before .before .before .before .before .before .octets .given .1) in
-    let h = f .1 in
-    let e = f .0 in
-    let g = c .before .before .before .before .before .before .before .before .before .before .before .before .before .before .before .before .before .before .before .before .good in
+add-given : tie.Need-add-given
+add-given c =
+    let start = c .before .before .before .before .before .before .before .before .before .before .before .before .before .before .before .before .before .before .before .before .before .before in
+    let fits = room (c .before .before .before .before .before .before .before .before .before) in
+    let fit = start .good in
     omega arith
 
-add-done-2 : tie.Need-add-done-2
-add-done-2 c =
-    let a = c .before .before .before .before .before .before .before .before .before .before .before .before .before .before .before .before .before .before .before .before .args in
-    let m = now (a .asdu) in
-    let out = now (a .answer) in
-    let D = dataOf standardLimit (now (a .types)) (a .cause) (a .command .ca) (a .s) (a .every) (now (a .table)) (a .base) (a .n) in
-    let k = c .before .before .before .before .before .before .before .before .before .before .before .before .before .put-data .ensures .0 in
-    let f = data-full out (9 + a .command .element) (9 + a .command .element) _ D (sym k ∙ c .before .before .before .before .before .before .before .before .before .octets .given .1) in
-    let h = f .1 in
-    let e = f .0 in
-    let g = c .before .before .before .before .before .before .before .before .before .before .before .before .before .before .before .before .before .before .before .before .good in
+add-given-2 : tie.Need-add-given-2
+add-given-2 c =
+    let start = c .before .before .before .before .before .before .before .before .before .before .before .before .before .before .before .before .before .before .before .before .before .before in
+    let fits = room (c .before .before .before .before .before .before .before .before .before) in
+    let fit = start .good in
     omega arith
 
-done-requires : tie.Need-done-requires
-done-requires c κs = search needs
+given-requires : tie.Need-given-requires
+given-requires c κs = search needs
 
 same-length-2 : tie.Need-same-length-2
 same-length-2 c = search needs
 
 returns-2 : tie.Need-returns-2
-unfolding whole
 returns-2 c =
-    let a = c .before .before .before .before .before .before .before .before .before .before .before .before .before .before .before .before .before .before .before .before .before .args in
-    let m = now (a .asdu) in
-    let out = now (a .answer) in
-    let D = dataOf standardLimit (now (a .types)) (a .cause) (a .command .ca) (a .s) (a .every) (now (a .table)) (a .base) (a .n) in
-    let k = c .before .before .before .before .before .before .before .before .before .before .before .before .before .before .put-data .ensures .0 in
-    let f = data-full out (9 + a .command .element) (9 + a .command .element) _ D (sym k ∙ c .before .before .before .before .before .before .before .before .before .before .octets .given .1) in
-    let h = f .1 in
-    let C = confirmation (a .command) m 7 false in
-    let T = confirmation (a .command) m 10 false in
-    let lc = length-confirmation (a .command) m 7 false (c .before .before .before .before .before .before .before .before .before .before .before .before .before .before .before .before .before .before .before .before .before .pre .6) in
-    let lt = length-confirmation (a .command) m 10 false (c .before .before .before .before .before .before .before .before .before .before .before .before .before .before .before .before .before .before .before .before .before .pre .6) in
-    let l = length-whole (now (a .types)) (a .cause) (a .s) (a .every) (now (a .table)) (a .base) (a .n) (a .command) m (c .before .before .before .before .before .before .before .before .before .before .before .before .before .before .before .before .before .before .before .before .before .pre .6) in
-    let e0 = f .0 in
-    let e1 = c .before .before .before .before .before .before .before .before .before .before .before .before .before .before .put-data .ensures .1 ∙ f .2 in
-    let e2 = c .before .before .before .before .before .before .before .put-confirmation .ensures .1 ∙ ap (λ (x : List ℕ). over x 0 C) e1 in
-    let e3 = c .before .before .before .put-termination .ensures ∙ (λ j. over (e2 j) (9 + a .command .element + e0 j) T) in
-    let w = between out C D T (9 + a .command .element) (length D) lc refl (omega arith) in
-    let z = full-sent (whole (now (a .types)) (a .cause) (a .s) (a .every) (now (a .table)) (a .base) (a .n) (a .command) m) out (9 + a .command .element + (c .before .before .before .before .before .before .before .before .before .before .octets .given .0 .0 + (9 + a .command .element))) _ (omega arith) (omega arith) (e3 ∙ w) in
-    (c .done .ensures ∙ z .0, z .1)
+    let start = c .before .before .before .before .before .before .before .before .before .before .before .before .before .before .before .before .before .before .before .before .before .before .before in
+    let d = same-data (c .before .before .before .before .before .before .before .before .before .before .before .before .before .before) in
+    let a = start .args in
+    rw (c .given .ensures)
+    (all-written (tableOf (now (a .table))) (a .command) (now (a .asdu)) (now (a .types)) (a .cause) (a .selection) (now (a .answer)) (start .pre .4 .1) _ (sym (d .0) ∙ c .before .before .before .before .before .before .before .before .before .before .octets .given .1) _ _ _ (d .1) (c .before .before .before .before .before .before .before .put-confirmation .ensures .1) (c .before .before .before .put-termination .ensures))
 
 pub report-spec : {M : Type 1} → statement M
 report-spec =
     tie.close
     (tie.spec
+    limit-of-requires
+    reach-of-requires
     add-before
+    add-before-2
     put-data-requires
     enum-known-octets
     enum-told
-    short-requires
+    nothing-requires
     same-length
     returns
     put-confirmation-requires
     add-put-termination
     put-termination-requires
-    add-done
-    add-done-2
-    done-requires
+    add-given
+    add-given-2
+    given-requires
     same-length-2
     returns-2)

@@ -4,33 +4,36 @@ use native.Mathlib.Omega.{arith}
 use Prim.Native.Nat.{_+_, _*_, _≤_}
 use denote.Ref.{now}
 use lib.ListN.{length}
+use Rattle.limits.specs.Size.{addressOctets}
 use Rattle.octets.proofs.Log.{Log, log-start}
-use Rattle.reads.specs.Reads.{requestedAt}
+use Rattle.reads.specs.Reads.{requestedAt, requestedBy}
 use Rattle.reads.proofs.Writing.{next-fits, next-in, all-in}
 use Rattle.reads.proofs.put_requested.Statement.{statement}
 use Rattle.reads.proofs.put_requested.Tie as tie
 
 abbrev Inv-loop : tie.InvT-loop
-Inv-loop out₀ m first h asdu count ca o₀ at₀ left₀ out o at left =
-    Log out₀ 0 (requestedAt m first h ca asdu 6 count) out o (requestedAt m first h ca asdu at left) × (at + 3 * left ≤ length asdu)
+Inv-loop out₀ from m first h command asdu o₀ at₀ left₀ out o at left =
+    Log out₀ from (requestedBy m first h command asdu) out o (requestedAt m first h (command .ca) asdu at left) × (at + addressOctets * left ≤ length asdu)
 
 abbrev μ-loop : tie.MeasureT-loop
-μ-loop out₀ m first h asdu count ca o₀ at₀ left₀ out o at left = left
+μ-loop out₀ from m first h command asdu o₀ at₀ left₀ out o at left = left
 
 loop-holds : tie.Need-loop-holds Inv-loop μ-loop
 loop-holds c =
     let a = c .before .before .before .args in
-    (log-start (now (a .out)) 0 (requestedAt (now (a .m)) (a .first) (a .h) (a .ca) (now (a .asdu)) 6 (a .count)) (omega arith), omega arith)
+    (log-start (now (a .out)) (a .from) (requestedBy (now (a .m)) (a .first) (a .h) (a .command) (now (a .asdu))) (omega arith), omega arith)
 
 three-at-requires : tie.Need-three-at-requires Inv-loop μ-loop
 three-at-requires c κs = search needs
 
 put-found-requires : tie.Need-put-found-requires Inv-loop μ-loop
 put-found-requires c κs =
-    let a = c .before .before .before .before .before .before .before .args in
+    let start = c .before .before .before .before .before .before .before in
+    let a = start .args in
     let l = c .before .before .before .loop in
     let i = c .before .three-at .ensures .0 in
-    let f = next-fits (now (a .m)) (a .first) (a .h) (a .ca) (now (a .asdu)) (now (a .out)) _ (l .out) (l .o) (l .at) (l .left) (l .inv .0) (omega arith) (omega arith) in
+    let f =
+    next-fits (now (a .m)) (a .first) (a .h) (a .command .ca) (now (a .asdu)) (now (a .out)) _ (l .out) (a .from) (l .o) (l .at) (l .left) (l .inv .0) (start .pre .1) (omega arith) in
     (omega arith, rw i f)
 
 add-at : tie.Need-add-at Inv-loop μ-loop
@@ -44,20 +47,25 @@ loop-less c = search needs
 
 loop-again : tie.Need-loop-again Inv-loop μ-loop
 loop-again c =
-    let a = c .before .before .before .before .before .before .before .before .before .before .args in
+    let start = c .before .before .before .before .before .before .before .before .before .before in
+    let a = start .args in
     let l = c .before .before .before .before .before .before .loop in
     let i = c .before .before .before .before .three-at .ensures .0 in
-    let p = c .before .before .put-found .ensures in
-    (next-in (now (a .m)) (a .first) (a .h) (a .ca) (now (a .asdu)) (now (a .out)) _ (l .out) (l .o) (l .at) (l .left) (l .inv .0) (omega arith) (omega arith) _ _ _ i (p .0) (p .1), omega arith)
+    let p = c .before .before .put-found .ensures in (
+      next-in (now (a .m)) (a .first) (a .h) (a .command .ca) (now (a .asdu)) (now (a .out)) _ (l .out) (a .from) (l .o) (l .at) (l .left) (l .inv .0) (start .pre .1) (omega arith)
+      _ _ _ i (p .0) (p .1),
+      omega arith,
+    )
 
 same-length : tie.Need-same-length Inv-loop μ-loop
 same-length c = let n = c .before .loop .inv .0 .len in omega arith
 
 returns : tie.Need-returns Inv-loop μ-loop
 returns c =
-    let a = c .before .before .before .before .before .args in
+    let start = c .before .before .before .before .before in
+    let a = start .args in
     let l = c .before .loop in
-    all-in (now (a .m)) (a .first) (a .h) (a .ca) (now (a .asdu)) (now (a .out)) _ (l .out) (l .o) (l .at) (l .left) (l .inv .0) (omega arith) (omega arith)
+    all-in (now (a .m)) (a .first) (a .h) (a .command .ca) (now (a .asdu)) (now (a .out)) _ (l .out) (a .from) (l .o) (l .at) (l .left) (l .inv .0) (start .pre .1) (omega arith)
 
 pub put-requested-spec : {M : Type 1} → statement M
 put-requested-spec =

@@ -5,6 +5,7 @@ use mathlib.Core.Path.{_≡_, sym, ap, _∙_}
 use Prim.Native.Nat.{ℕ, _+_, _*_, _-_, _≤_}
 use denote.Ref.{now}
 use lib.ListN.{length}
+use Rattle.limits.specs.Size.{headerOctets, addressOctets}
 use Rattle.seats.specs.Find.{findAt}
 use Rattle.reads.specs.declared.Asked.the-variants.{Known}
 use Rattle.reads.specs.Reads.{askedOf, together, askedAt}
@@ -13,11 +14,12 @@ use Rattle.reads.proofs.read_octets.Statement.{statement}
 use Rattle.reads.proofs.read_octets.Tie as tie
 
 abbrev Inv-loop : tie.InvT-loop
-Inv-loop m first h asdu count octets₀ at₀ left₀ octets at left =
-    (askedAt m first h asdu 6 count ≡ together (Known octets) (askedAt m first h asdu at left)) × (at + 3 * left ≤ length asdu) × (left ≤ count) × (octets ≤ 21 * (count - left))
+Inv-loop m first h asdu octets₀ at₀ left₀ octets at left =
+    (askedAt m first h asdu headerOctets left₀ ≡ together (Known octets) (askedAt m first h asdu at left)) × (at + addressOctets * left ≤ length asdu)
+    × (left ≤ left₀) × (octets ≤ 21 * (left₀ - left))
 
 abbrev μ-loop : tie.MeasureT-loop
-μ-loop m first h asdu count octets₀ at₀ left₀ octets at left = left
+μ-loop m first h asdu octets₀ at₀ left₀ octets at left = left
 
 loop-holds : tie.Need-loop-holds Inv-loop μ-loop
 loop-holds c = (sym (together-none _), omega arith, omega arith, omega arith)
