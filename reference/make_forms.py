@@ -1,4 +1,4 @@
-"""Makes the replay list of the two forms by hand (crate replay_forms): batches as slices of point records, and
+"""Makes the replay list of the two forms by hand (crates/replay, forms): batches as slices of point records, and
 system commands with the clock lent.
 
 The program takes batches of no, one and three records to the entry over a slice of records; what is expected is what
@@ -95,10 +95,10 @@ def clocks(s):
 
 
 def main():
-    s = Script()
+    s = Script(forms={"b": "l", "s": "k"})
     batches(s)
     clocks(s)
-    s.write("replay_forms", ("batch", "system"))
+    s.write("forms", ("batch", "system"))
 
 
 if __name__ == "__main__":

@@ -1,4 +1,4 @@
-"""Makes the replay list of process commands (crate replay_process).
+"""Makes the replay list of process commands (crates/replay, process).
 
 Every number expected is typed in beside its call from document 01; octets and memories are calculated by
 gateway.py.
@@ -290,7 +290,7 @@ def main():
     confirmations(s)
     spoilt(s)
     drawn(s)
-    s.write("replay_process", ("process",))
+    s.write("process", ("process",))
 
 
 if __name__ == "__main__":

@@ -1,4 +1,4 @@
-"""Makes the replay list of the table: opening, registration, removal, shares (crate replay_registration).
+"""Makes the replay list of the table: opening, registration, removal, shares (crates/replay, registration).
 
 Each section covers one rule of document 01 from both sides; the numbers expected are typed in beside the
 calls, and everything else that a line shows is calculated by gateway.py.
@@ -565,7 +565,7 @@ def main():
     damage(s)
     full_table(s)
     drawn(s)
-    s.write("replay_registration", ("open", "register", "batch", "unregister", "clear", "share"))
+    s.write("registration", ("open", "register", "batch", "unregister", "clear", "share"))
 
 
 if __name__ == "__main__":

@@ -1,4 +1,4 @@
-"""Makes the replay list of reports: packing, selection, order, start of a connection (crate replay_reports).
+"""Makes the replay list of reports: packing, selection, order, start of a connection (crates/replay, reports).
 
 Reports are asked for by interrogations. The octets that an answer has are typed in or reckoned here from the
 paper's sentence on full ASDUs, by a sum and not by packing; which octets they are is calculated by gateway.py.
@@ -226,7 +226,7 @@ def main():
     started(s)
     drawn(s)
     full_table(s)
-    s.write("replay_reports", ("started",))
+    s.write("reports", ("started",))
 
 
 if __name__ == "__main__":

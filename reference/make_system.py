@@ -1,4 +1,4 @@
-"""Makes the replay list of system commands (crate replay_system).
+"""Makes the replay list of system commands (crates/replay, system).
 
 Every number expected is typed in beside its call from document 01; octets and memories are calculated by
 gateway.py.
@@ -367,7 +367,7 @@ def main():
     clocks(s)
     spoilt(s)
     drawn(s)
-    s.write("replay_system", ("system",))
+    s.write("system", ("system",))
 
 
 if __name__ == "__main__":

@@ -1,7 +1,8 @@
 """Scripts of calls, and the lines that replaying one must print.
 
-A script is octets.  The programs crates/replay_* read it from their data/ and make the calls on the
-proved entries; the machine here makes the same calls on gateway.py.  Both print one line for each call:
+A list of calls is a script, octets.  The program crates/replay reads the scripts in its data/ and makes the
+calls on the proved entries; the machine here makes the same calls on gateway.py.  Both print a line `list NAME`
+for each list, and one for each call:
 
     NAME number place octets spontaneous CHECKSUM            every entry but share
     share number reservation ceiling held free unmet CHECKSUM
@@ -9,7 +10,8 @@ proved entries; the machine here makes the same calls on gateway.py.  Both print
 The checksum runs over all of the table's, the clock's, the answer's and the spontaneous memory after the
 call, so a refusal that writes, or a writer that leaves its part, shows.
 
-A step of a script is one letter and what follows it; numbers are low octet first.
+A step of a script is one letter and what follows it; numbers are low octet first.  CALLS has the steps that
+call; the others set memory:
 
     T length:4 fill:1      lend table memory of this length, filled with this octet
     L length:4             lend this length of the table memory as it is
@@ -19,50 +21,30 @@ A step of a script is one letter and what follows it; numbers are low octet firs
     P at:4 octet:1         set one octet of the table memory
     K                      keep a copy of the table memory that is lent
     B                      put the kept copy back over the table memory that is lent
-    o capacity:4 n:2 n*2   open, the plan as n numbers
-    r octets:24            register one point
-    b n:4 octets:n         register a batch
-    n n:2 octets:24        register a batch of n records like the one given: to the IOA and to each octet of
-                           the value the record's place in the batch is added
-    u ca:2 ioa:4           unregister one point
-    x                      unregister all
-    h ca:2                 share
-    c                      start of a connection
-    s asdu                 system command
-    p asdu negative:1 type:1 n:2 octets:n m:4 octets:m
-                           process command: reply of n octets, updates of m octets
-    where asdu is length:2 given:2 octets:given, the rest up to the length being zeros
 """
 
+import fcntl
 import os
+from collections import namedtuple
 
 import gateway
 from gateway import low_first, number_of
 
-# What the programs have room for.
+# What the program has room for.
 TABLE_ROOM = 200000
 ANSWER_ROOM = 65536
 SPONTANEOUS_ROOM = 65536
 ASDU_ROOM = 512
 PLAN_ROOM = 256
 SERIES_ROOM = 4100
+SCRIPT_ROOM = 524288
+
+# The program's crate: data/ has the scripts, args their names in order, stdout the lines.
+RUNNER = os.path.join(os.path.dirname(os.path.abspath(__file__)), "..", "crates", "replay")
 
 # The checksum's multiplier and its modulus, the greatest prime below 2^32.
 MULTIPLIER = 16777619
 MODULUS = 4294967291
-
-# The numbers that each entry can give (document 01, "Numbers given back").
-NUMBERS = {
-    "open": {0, 10},
-    "register": {0, 3, 11, 12, 13, 14, 15, 17, 19, 20},
-    "batch": {0, 3, 11, 12, 13, 14, 15, 16, 17, 19, 20},
-    "unregister": {0, 3, 18},
-    "clear": {0, 3},
-    "share": {0, 3, 12},
-    "started": {0, 3, 4},
-    "system": {0, 1, 2, 3, 4},
-    "process": {0, 1, 2, 3, 4, 5, 6},
-}
 
 
 def checksum(*memories):
@@ -78,12 +60,78 @@ def checksum(*memories):
 def series(count, record):
     """A batch of records like the one given: to the IOA and to each octet of the value the record's place in
     the batch is added."""
+    assert count <= SERIES_ROOM
     batch = bytearray()
     for i in range(count):
         ioa = (number_of(record[2:6]) + i) % 2**32
         value = bytes((octet + i) % 256 for octet in record[12:24])
         batch += record[0:2] + low_first(ioa, 4) + record[6:12] + value
     return bytes(batch)
+
+
+# What can follow the letter of a call: how the machine reads it, and how a script has it written.
+Part = namedtuple("Part", "read write")
+
+
+def number(octets):
+    return Part(lambda m: m.number(octets), lambda value: low_first(value, octets))
+
+
+def counted(octets):
+    """Octets after their number."""
+    return Part(lambda m: m.octets(m.number(octets)), lambda part: low_first(len(part), octets) + bytes(part))
+
+
+def read_plan(machine):
+    count = machine.number(2)
+    assert count <= PLAN_ROOM
+    return [machine.number(2) for _ in range(count)]
+
+
+def read_asdu(machine):
+    length, given = machine.number(2), machine.number(2)
+    assert given <= length <= ASDU_ROOM
+    return machine.octets(given) + bytes(length - given)
+
+
+def write_asdu(asdu):
+    given = asdu.rstrip(b"\0")
+    return low_first(len(asdu), 2) + low_first(len(given), 2) + given
+
+
+# A plan: its length, then numbers of two octets. An ASDU: its length, how many octets are given, these; the rest
+# is zeros.
+RECORD = Part(lambda m: m.octets(24), bytes)
+PLAN = Part(read_plan, lambda plan: low_first(len(plan), 2) + b"".join(low_first(n, 2) for n in plan))
+ASDU = Part(read_asdu, write_asdu)
+
+
+# A step that calls: the name in its line, what follows its letter, the call on the memory of a machine, and the
+# numbers that it can give (document 01, "Numbers given back").
+Call = namedtuple("Call", "name parts make numbers")
+
+CALLS = {
+    "o": Call("open", (number(4), PLAN), lambda m, *a: gateway.open_table(m.lent, *a), {0, 10}),
+    "r": Call("register", (RECORD,), lambda m, *a: gateway.register_point(m.lent, *a),
+              {0, 3, 11, 12, 13, 14, 15, 17, 19, 20}),
+    "b": Call("batch", (counted(4),), lambda m, *a: gateway.register_points(m.lent, *a),
+              {0, 3, 11, 12, 13, 14, 15, 16, 17, 19, 20}),
+    "u": Call("unregister", (number(2), number(4)), lambda m, *a: gateway.unregister_point(m.lent, *a), {0, 3, 18}),
+    "x": Call("clear", (), lambda m: gateway.unregister_all(m.lent), {0, 3}),
+    "h": Call("share", (number(2),), lambda m, *a: gateway.share(m.lent, *a), {0, 3, 12}),
+    "c": Call("started", (), lambda m: gateway.connection_started(m.lent, m.answer), {0, 3, 4}),
+    "s": Call("system", (ASDU,), lambda m, *a: gateway.system_command(m.lent, m.clock, *a, m.answer), {0, 1, 2, 3, 4}),
+    # negative, type and objects of the reply, updates
+    "p": Call("process", (ASDU, number(1), number(1), counted(2), counted(4)),
+              lambda m, *a: gateway.process_command(m.lent, *a, m.answer, m.spontaneous), {0, 1, 2, 3, 4, 5, 6}),
+}
+# A batch of a number of records like the one given.
+CALLS["n"] = CALLS["b"]._replace(parts=(number(2), RECORD), make=lambda m, *a: gateway.register_points(m.lent, series(*a)))
+# The two forms by hand: a batch of none, one or three records as a slice of point records; the clock lent as a record.
+CALLS["l"] = CALLS["b"]
+CALLS["k"] = CALLS["s"]
+
+NUMBERS = {call.name: call.numbers for call in CALLS.values()}
 
 
 class Machine:
@@ -103,7 +151,11 @@ class Machine:
         """Makes every step of a script."""
         self.script, self.at = script, 0
         while self.at < len(script):
-            getattr(self, "step_" + chr(self.number(1)))()
+            letter = chr(self.number(1))
+            if letter in CALLS:
+                self.call(CALLS[letter])
+            else:
+                getattr(self, "step_" + letter)()
 
     def number(self, octets):
         return number_of(self.octets(octets))
@@ -114,19 +166,15 @@ class Machine:
         self.at += count
         return bytes(part)
 
-    def asdu(self):
-        length, given = self.number(2), self.number(2)
-        assert given <= length <= ASDU_ROOM
-        return self.octets(given) + bytes(length - given)
-
-    def call(self, name, entry, *arguments):
-        """Makes one call on the table memory and prints its line."""
-        lent = self.table[: self.table_length]
-        reply = entry(lent, *arguments)
-        self.table[: self.table_length] = lent
-        total = checksum(lent, self.clock, self.answer, self.spontaneous)
-        self.replies.append((name, reply))
-        self.lines.append(" ".join([name, *map(str, reply), str(total)]))
+    def call(self, call):
+        """Makes one call on the table memory that is lent and prints its line."""
+        arguments = [part.read(self) for part in call.parts]
+        self.lent = self.table[: self.table_length]
+        reply = call.make(self, *arguments)
+        self.table[: self.table_length] = self.lent
+        total = checksum(self.lent, self.clock, self.answer, self.spontaneous)
+        self.replies.append((call.name, reply))
+        self.lines.append(" ".join([call.name, *map(str, reply), str(total)]))
 
     # The steps that set memory.
 
@@ -164,52 +212,6 @@ class Machine:
     def step_B(self):
         self.table[: self.table_length] = self.kept[: self.table_length]
 
-    # The steps that call.
-
-    def step_o(self):
-        capacity, count = self.number(4), self.number(2)
-        assert count <= PLAN_ROOM
-        self.call("open", gateway.open_table, capacity, [self.number(2) for _ in range(count)])
-
-    def step_r(self):
-        self.call("register", gateway.register_point, self.octets(24))
-
-    def step_b(self):
-        self.call("batch", gateway.register_points, self.octets(self.number(4)))
-
-    def step_n(self):
-        count = self.number(2)
-        assert count <= SERIES_ROOM
-        self.call("batch", gateway.register_points, series(count, self.octets(24)))
-
-    def step_u(self):
-        self.call("unregister", gateway.unregister_point, self.number(2), self.number(4))
-
-    def step_x(self):
-        self.call("clear", gateway.unregister_all)
-
-    def step_h(self):
-        self.call("share", gateway.share, self.number(2))
-
-    def step_c(self):
-        self.call("started", gateway.connection_started, self.answer)
-
-    def step_s(self):
-        asdu = self.asdu()
-        self.call("system", lambda table: gateway.system_command(table, self.clock, asdu, self.answer))
-
-    def step_p(self):
-        asdu = self.asdu()
-        negative, reply_type = self.number(1), self.number(1)
-        reply = self.octets(self.number(2))
-        updates = self.octets(self.number(4))
-        self.call(
-            "process",
-            lambda table: gateway.process_command(
-                table, asdu, negative, reply_type, reply, updates, self.answer, self.spontaneous
-            ),
-        )
-
 
 class Script:
     """Writes a script, and holds each call to what its writer expects.
@@ -218,22 +220,25 @@ class Script:
     and for a refused batch or a removal of all `place`; a call without `expect` leaves it to gateway.py.
     """
 
-    def __init__(self):
+    def __init__(self, forms={}):
+        """Forms: the letters that some calls have in this list, another form of the same calls."""
         self.octets = bytearray()
         self.machine = Machine()
+        self.forms = forms
 
     def step(self, letter, *parts):
         step = letter.encode() + b"".join(parts)
         self.octets += step
         self.machine.replay(step)
 
-    def held_to(self, expect, place=None, **others):
+    def call(self, letter, *arguments, expect=None, **others):
+        """A call, held to the number expected and to what else of its reply is."""
+        parts = CALLS[letter].parts
+        assert len(parts) == len(arguments)
+        self.step(self.forms.get(letter, letter), *(part.write(a) for part, a in zip(parts, arguments)))
         name, reply = self.machine.replies[-1]
-        where = len(self.machine.replies), name, reply
-        assert expect is None or reply.number == expect, (*where, "expected", expect)
-        assert place is None or reply.place == place, (*where, "expected place", place)
-        for field, value in others.items():
-            assert value is None or getattr(reply, field) == value, (*where, "expected", field, value)
+        for field, value in {"number": expect, **others}.items():
+            assert value is None or getattr(reply, field) == value, (len(self.machine.replies), name, reply, "expected", field, value)
         return reply
 
     def lend_table(self, length, fill=0xA5):
@@ -266,9 +271,7 @@ class Script:
 
     def open(self, capacity, plan, expect=None):
         """Plan: a flat list of numbers."""
-        numbers = b"".join(low_first(number, 2) for number in plan)
-        self.step("o", low_first(capacity, 4), low_first(len(plan), 2), numbers)
-        return self.held_to(expect)
+        return self.call("o", capacity, plan, expect=expect)
 
     def opened(self, capacity, plan, more=0, expect=0):
         """Opens in memory of just the length asked, or so much more."""
@@ -276,77 +279,87 @@ class Script:
         return self.open(capacity, plan, expect)
 
     def register(self, record, expect=None):
-        self.step("r", bytes(record))
-        return self.held_to(expect)
+        return self.call("r", record, expect=expect)
 
     def batch(self, records, expect=None, place=None):
-        octets = b"".join(bytes(record) for record in records)
-        self.step("b", low_first(len(octets), 4), octets)
-        return self.held_to(expect, place)
+        return self.call("b", b"".join(bytes(record) for record in records), expect=expect, place=place)
 
     def series(self, count, record, expect=None, place=None):
-        self.step("n", low_first(count, 2), bytes(record))
-        return self.held_to(expect, place)
+        return self.call("n", count, record, expect=expect, place=place)
 
     def unregister(self, ca, ioa, expect=None):
-        self.step("u", low_first(ca, 2), low_first(ioa, 4))
-        return self.held_to(expect)
+        return self.call("u", ca, ioa, expect=expect)
 
     def clear(self, expect=None, place=None):
-        self.step("x")
-        return self.held_to(expect, place)
+        return self.call("x", expect=expect, place=place)
 
     def share(self, ca, expect=None, **others):
-        self.step("h", low_first(ca, 2))
-        return self.held_to(expect, **others)
+        return self.call("h", ca, expect=expect, **others)
 
     def started(self, expect=None, octets=None):
-        self.step("c")
-        return self.held_to(expect, octets=octets)
+        return self.call("c", expect=expect, octets=octets)
 
     @staticmethod
     def asdu(octets, length=None):
-        length = len(octets) if length is None else length
-        given = bytes(octets[:length]).rstrip(b"\0")
-        return low_first(length, 2) + low_first(len(given), 2) + given
+        """Cut to the length, or gone on with zeros up to it."""
+        return bytes(octets) if length is None else bytes(octets[:length]).ljust(length, b"\0")
 
     def system(self, octets, expect=None, answer=None, length=None):
-        """Length: cut the ASDU to it, or go on with zeros up to it."""
-        self.step("s", self.asdu(octets, length))
-        return self.held_to(expect, octets=answer)
+        return self.call("s", self.asdu(octets, length), expect=expect, octets=answer)
 
     def process(self, octets, negative=0, reply_type=45, reply=b"", updates=b"", expect=None, answer=None,
                 told=None, length=None):
-        reply, updates = bytes(reply), bytes(updates)
-        self.step(
-            "p",
-            self.asdu(octets, length),
-            bytes([negative, reply_type]),
-            low_first(len(reply), 2) + reply,
-            low_first(len(updates), 4) + updates,
-        )
-        return self.held_to(expect, octets=answer, spontaneous=told)
+        asdu = self.asdu(octets, length)
+        return self.call("p", asdu, negative, reply_type, reply, updates, expect=expect, octets=answer, spontaneous=told)
 
     def numbers_seen(self, name):
         return {reply.number for called, reply in self.machine.replies if called == name}
 
-    def write(self, crate, entries):
-        """Writes data/, args and stdout of a program crate, after a second look: every number that these
-        entries can give was given, and the script read from its start prints the same lines."""
-        for name in entries:
-            assert self.numbers_seen(name) == NUMBERS[name], (name, self.numbers_seen(name))
+    def write(self, name, entries):
+        """Stores the list under a name, after a second look: every number that these entries can give was given,
+        and the script read from its start prints the same lines."""
+        for entry in entries:
+            assert self.numbers_seen(entry) == NUMBERS[entry], (entry, self.numbers_seen(entry))
         again = Machine()
         again.replay(bytes(self.octets))
         assert again.lines == self.machine.lines
-        folder = os.path.join(os.path.dirname(os.path.abspath(__file__)), "..", "crates", crate)
-        os.makedirs(os.path.join(folder, "data"), exist_ok=True)
-        with open(os.path.join(folder, "data", "script"), "wb") as file:
-            file.write(self.octets)
-        with open(os.path.join(folder, "stdout"), "w") as file:
-            file.write("".join(line + "\n" for line in self.machine.lines))
-        with open(os.path.join(folder, "args"), "w") as file:
-            file.write("script\n")
-        print(f"{crate}: {len(self.machine.lines)} calls in {len(self.octets)} octets")
+        store(name, self.octets, self.machine.lines)
+
+
+def lists(stdout):
+    """The lines under each heading of what the program writes."""
+    sections = {}
+    for line in stdout.splitlines():
+        if line.startswith("list "):
+            lines = sections.setdefault(line.removeprefix("list "), [])
+        else:
+            lines.append(line)
+    return sections
+
+
+def store(name, script, lines):
+    """Puts a list into the program's crate: its script, its lines under its heading, and its name if it is new. Lists
+    may be stored side by side."""
+    assert len(script) <= SCRIPT_ROOM
+    os.makedirs(os.path.join(RUNNER, "data"), exist_ok=True)
+    with open(os.path.join(RUNNER, "data", name), "wb") as file:
+        file.write(script)
+    with open(os.path.join(RUNNER, "args"), "a+") as args, open(os.path.join(RUNNER, "stdout"), "a+") as stdout:
+        fcntl.flock(args, fcntl.LOCK_EX)
+        args.seek(0)
+        names = args.read().split()
+        if name not in names:
+            names.append(name)
+            args.write(name + "\n")
+        stdout.seek(0)
+        sections = {**lists(stdout.read()), name: lines}
+        stdout.truncate(0)
+        for listed in names:
+            if listed in sections:
+                stdout.write("".join(line + "\n" for line in [f"list {listed}", *sections[listed]]))
+        args.flush()
+        stdout.flush()
+    print(f"{name}: {len(lines)} calls in {len(script)} octets")
 
 
 class Draw:

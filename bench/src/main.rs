@@ -11,7 +11,7 @@ use std::time::Duration;
 use original::Original;
 use ours::Ours;
 use timing::{Run, Times, interleaved, timed};
-use work::{COUNTERS, Dice, KINDS, Point, command, plan, points, read, record_of, single_command};
+use work::{COUNTERS, Dice, KINDS, Point, command, plan, points, read, single_command};
 
 const CAPACITY: usize = 4096;
 const EVERY_STATION: u16 = 65535;
@@ -111,7 +111,7 @@ fn counters() {
 
 /// Registering and removing `list` in its order, on both sides, from nothing.
 fn registering(order: &str, stations: usize, list: &[Point]) {
-    let records: Vec<[u8; 24]> = list.iter().map(record_of).collect();
+    let records: Vec<[u8; 24]> = list.iter().map(Point::octets).collect();
     let flat: Vec<u8> = records.concat();
     let shares = plan(stations, CAPACITY);
     let fresh = || Ours::open(CAPACITY, &shares);
@@ -191,7 +191,7 @@ fn growth_row(total: usize, stations: usize) {
     let asdu = single_command(middle.ca, middle.ioa);
     row.push(lowest(&mut || timed(|| ours.process(&asdu, &middle))));
     let batch = |list: &[Point]| {
-        let flat: Vec<u8> = list.iter().flat_map(record_of).collect();
+        let flat: Vec<u8> = list.iter().flat_map(Point::octets).collect();
         lowest(&mut || {
             let mut ours = Ours::open(CAPACITY, &shares);
             timed(|| ours.register_all(&flat))
@@ -200,7 +200,7 @@ fn growth_row(total: usize, stations: usize) {
     row.push(batch(&list));
     Dice::new(7).shuffle(&mut list);
     row.push(batch(&list));
-    let record = record_of(&middle);
+    let record = middle.octets();
     ours.unregister(middle.ca, middle.ioa);
     row.push(lowest(&mut || {
         let time = timed(|| ours.register(&record));

@@ -6,7 +6,7 @@ use crate::work::Point;
 
 /// A point as the original's driver takes it.
 pub fn typed(p: &Point) -> Theirs {
-    Theirs { ca: p.ca, ioa: p.ioa, type_id: p.kind, octets: p.value, interrogation_group: Some(p.group), counter_group: p.counter_group }
+    Theirs { ca: p.ca, ioa: p.ioa, type_id: p.type_id, octets: p.value, interrogation_group: p.group, counter_group: p.counter_group }
 }
 
 /// A batch with its typed values made beforehand.

@@ -9,15 +9,7 @@ pub struct Share {
 }
 
 /// A point as both sides are given it.
-#[derive(Clone, Copy)]
-pub struct Point {
-    pub ca: u16,
-    pub ioa: u32,
-    pub kind: u8,
-    pub group: u8,
-    pub counter_group: Option<u8>,
-    pub value: [u8; 12],
-}
+pub type Point = khuvelter_sys::Record;
 
 /// The 30 types of points with their octets of element (document 01).
 pub const KINDS: [(u8, usize); 30] = [
@@ -59,42 +51,17 @@ pub fn points(stations: usize, each: usize, kinds: &[(u8, usize)], dice: &mut Di
     let mut list = Vec::with_capacity(stations * each);
     for station in 0..stations {
         for i in 0..each {
-            let (kind, octets) = kinds[dice.below(kinds.len())];
+            let (type_id, octets) = kinds[dice.below(kinds.len())];
             let mut value = [0; 12];
             value[0] = 1;
-            let counter = kind == 15 || kind == 37;
+            let counter = type_id == 15 || type_id == 37;
             let counter_group = counter.then(|| 1 + dice.below(4) as u8);
             debug_assert!(0 < octets);
-            list.push(Point { ca: station as u16 + 1, ioa: 1 + 3 * i as u32, kind, group: 1 + dice.below(16) as u8, counter_group, value });
+            let group = Some(1 + dice.below(16) as u8);
+            list.push(Point { ca: station as u16 + 1, ioa: 1 + 3 * i as u32, type_id, group, counter_group, value });
         }
     }
     list
-}
-
-/// A point as a flat record of 24 octets (DESIGN.md, section 5).
-pub fn record_of(p: &Point) -> [u8; 24] {
-    let mut record = [0; 24];
-    record[0..2].copy_from_slice(&p.ca.to_le_bytes());
-    record[2..6].copy_from_slice(&p.ioa.to_le_bytes());
-    record[6] = p.kind;
-    record[7] = 1;
-    record[8] = p.group;
-    if let Some(group) = p.counter_group {
-        record[9] = 1;
-        record[10] = group;
-    }
-    record[12..24].copy_from_slice(&p.value);
-    record
-}
-
-/// An update of a point: CA, IOA, type, value.
-pub fn update_of(p: &Point) -> [u8; 18] {
-    let mut update = [0; 18];
-    update[0..2].copy_from_slice(&p.ca.to_le_bytes());
-    update[2..5].copy_from_slice(&p.ioa.to_le_bytes()[0..3]);
-    update[5] = p.kind;
-    update[6..18].copy_from_slice(&p.value);
-    update
 }
 
 /// A command with cause 6 (activation), IOA 0 and one octet: interrogation (100) or counters (101).

@@ -9,6 +9,8 @@
 
 use std::io::stdin;
 
+use khuvelter_sys::Proposal;
+
 use crate::ours::{Ours, Reply};
 
 const ROOM: usize = 1 << 20;
@@ -45,7 +47,9 @@ pub fn answer_lines() {
             "started" => ours.connection_started(ROOM),
             "system" => ours.system_command(&octets(words[1]), ROOM),
             "process" => {
-                ours.process_octets(&octets(words[1]), number(words[2]), number(words[3]), &octets(words[4]), &octets(words[5]), ROOM, ROOM)
+                let [asdu, reply, updates] = [1, 4, 5].map(|i| octets(words[i]));
+                let proposal = Proposal { negative: number(words[2]), reply_type: number(words[3]), reply: &reply, updates: &updates };
+                ours.process_octets(&asdu, proposal, ROOM, ROOM)
             }
             other => panic!("no call is named {other}"),
         };

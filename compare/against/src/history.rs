@@ -38,19 +38,29 @@ impl History {
 }
 
 impl Call {
+    /// The name of a call, as a line of reference/script.py has it.
+    pub fn name(&self) -> &'static str {
+        match self {
+            Call::Register(_) => "register",
+            Call::RegisterAll(_) => "batch",
+            Call::Unregister { .. } => "unregister",
+            Call::UnregisterAll => "clear",
+            Call::Started { .. } => "started",
+            Call::System { .. } => "system",
+            Call::Process { .. } => "process",
+        }
+    }
+
     /// The kind of a call, for the counts that a run prints.
     pub fn kind(&self) -> String {
-        let command = |asdu: &[u8]| asdu.first().map_or("empty".to_string(), u8::to_string);
+        let name = self.name();
         match self {
-            Call::Register(_) => "register".into(),
-            Call::RegisterAll(_) => "batch".into(),
-            Call::Unregister { .. } => "unregister".into(),
-            Call::UnregisterAll => "clear".into(),
-            Call::Started { .. } => "started".into(),
-            Call::System { asdu, .. } if matches!(asdu.first(), Some(100..=105 | 107)) => format!("system {}", command(asdu)),
-            Call::System { .. } => "system, a type not served".into(),
-            Call::Process { asdu, .. } if matches!(asdu.first(), Some(45..=51 | 58..=64)) => format!("process {}", command(asdu)),
-            Call::Process { .. } => "process, a type not served".into(),
+            Call::System { asdu, .. } | Call::Process { asdu, .. } => match asdu.first() {
+                Some(kind @ (45..=51 | 58..=64)) if name == "process" => format!("{name} {kind}"),
+                Some(kind @ (100..=105 | 107)) if name == "system" => format!("{name} {kind}"),
+                _ => format!("{name}, a type not served"),
+            },
+            _ => name.into(),
         }
     }
 }

@@ -1,63 +1,8 @@
 //! The proved library over its C interface: each call on memory of just the length that the caller names.
 
+use khuvelter_sys::{self as sys, RECORD, Record, UPDATE, Update};
+pub use khuvelter_sys::{Reply, StationShare as Share};
 use original::{Point, Proposal};
-
-/// What every call gives back (DESIGN.md, section 5).
-#[repr(C)]
-#[derive(Debug, Clone, Copy, PartialEq, Eq, Default)]
-pub struct Reply {
-    pub number: u32,
-    pub place: u32,
-    pub octets: u32,
-    pub spontaneous: u32,
-}
-
-/// A station's share (DESIGN.md, section 5).
-#[repr(C)]
-#[derive(Debug, Clone, Copy, PartialEq, Eq, Default)]
-pub struct Share {
-    pub number: u32,
-    pub reservation: u32,
-    pub ceiling: u32,
-    pub held: u32,
-    pub free: u32,
-    pub unmet: u32,
-}
-
-unsafe extern "C" {
-    fn khuvelter_open(table: *mut u8, table_length: usize, capacity: u32, plan: *const u16, plan_length: usize) -> Reply;
-    fn khuvelter_register_point(table: *mut u8, table_length: usize, record: *const [u8; 24]) -> Reply;
-    fn khuvelter_register_points(table: *mut u8, table_length: usize, records: *const u8, records_length: usize) -> Reply;
-    fn khuvelter_unregister_point(table: *mut u8, table_length: usize, ca: u16, ioa: u32) -> Reply;
-    fn khuvelter_unregister_all(table: *mut u8, table_length: usize) -> Reply;
-    fn khuvelter_connection_started(table: *const u8, table_length: usize, answer: *mut u8, answer_length: usize) -> Reply;
-    fn khuvelter_share(table: *const u8, table_length: usize, ca: u16) -> Share;
-    fn khuvelter_system_command(
-        table: *mut u8,
-        table_length: usize,
-        clock: *mut [u8; 8],
-        asdu: *const u8,
-        asdu_length: usize,
-        answer: *mut u8,
-        answer_length: usize,
-    ) -> Reply;
-    fn khuvelter_process_command(
-        table: *mut u8,
-        table_length: usize,
-        asdu: *const u8,
-        asdu_length: usize,
-        negative: u8,
-        reply_type: u8,
-        reply: *const u8,
-        reply_length: usize,
-        updates: *const u8,
-        updates_length: usize,
-        answer: *mut u8,
-        answer_length: usize,
-        spontaneous: *mut u8,
-        spontaneous_length: usize,
-    ) -> Reply;
-}
 
 /// What the answer and the spontaneous memory are filled with before a call.
 pub const ANSWER_FILL: u8 = 0xEE;
@@ -73,35 +18,22 @@ pub struct Ours {
 }
 
 /// A point as a record of 24 octets.
-pub fn record(point: &Point) -> [u8; 24] {
-    let mut record = [0; 24];
-    record[..2].copy_from_slice(&point.ca.to_le_bytes());
-    record[2..6].copy_from_slice(&point.ioa.to_le_bytes());
-    record[6] = point.type_id;
-    record[7] = point.interrogation_group.is_some() as u8;
-    record[8] = point.interrogation_group.unwrap_or(0);
-    record[9] = point.counter_group.is_some() as u8;
-    record[10] = point.counter_group.unwrap_or(0);
-    record[12..].copy_from_slice(&point.octets);
-    record
+pub fn record(point: &Point) -> [u8; RECORD] {
+    let &Point { ca, ioa, type_id, octets, interrogation_group, counter_group } = point;
+    Record { ca, ioa, type_id, group: interrogation_group, counter_group, value: octets }.octets()
 }
 
 /// An update as 18 octets.
-pub fn update(point: &Point) -> [u8; 18] {
-    let mut update = [0; 18];
-    update[..2].copy_from_slice(&point.ca.to_le_bytes());
-    update[2..5].copy_from_slice(&point.ioa.to_le_bytes()[..3]);
-    update[5] = point.type_id;
-    update[6..].copy_from_slice(&point.octets);
-    update
+pub fn update(point: &Point) -> [u8; UPDATE] {
+    let &Point { ca, ioa, type_id, octets, .. } = point;
+    Update { ca, ioa, type_id, value: octets }.octets()
 }
 
 impl Ours {
     /// Opens a table in memory of just the length that number 10 asks for.
     pub fn open(capacity: u32, plan: &[u16]) -> Self {
-        let mut table = vec![0xA5; 64 + 48 * capacity as usize + 8 * (plan.len() / 3)];
-        let reply = unsafe { khuvelter_open(table.as_mut_ptr(), table.len(), capacity, plan.as_ptr(), plan.len()) };
-        assert_eq!(reply, Reply::default(), "a valid plan");
+        let mut table = vec![0xA5; sys::table_octets(capacity, plan.len() / 3)];
+        assert_eq!(sys::open(&mut table, capacity, plan), Reply::default(), "a valid plan");
         Self { table, clock: [0; 8], answer: Vec::new(), spontaneous: Vec::new() }
     }
 
@@ -109,81 +41,47 @@ impl Ours {
         self.register_record(&record(point))
     }
 
-    pub fn register_record(&mut self, record: &[u8; 24]) -> Reply {
-        unsafe { khuvelter_register_point(self.table.as_mut_ptr(), self.table.len(), record) }
+    pub fn register_record(&mut self, record: &[u8; RECORD]) -> Reply {
+        sys::register_point(&mut self.table, record)
     }
 
     pub fn register_all(&mut self, points: &[Point]) -> Reply {
         let records = points.iter().flat_map(record).collect::<Vec<u8>>();
-        unsafe { khuvelter_register_points(self.table.as_mut_ptr(), self.table.len(), records.as_ptr(), records.len()) }
+        sys::register_points(&mut self.table, &records)
     }
 
     pub fn unregister(&mut self, ca: u16, ioa: u32) -> Reply {
-        unsafe { khuvelter_unregister_point(self.table.as_mut_ptr(), self.table.len(), ca, ioa) }
+        sys::unregister_point(&mut self.table, ca, ioa)
     }
 
     pub fn unregister_all(&mut self) -> Reply {
-        unsafe { khuvelter_unregister_all(self.table.as_mut_ptr(), self.table.len()) }
+        sys::unregister_all(&mut self.table)
     }
 
     pub fn share(&self, ca: u16) -> Share {
-        unsafe { khuvelter_share(self.table.as_ptr(), self.table.len(), ca) }
+        sys::share(&self.table, ca)
     }
 
     pub fn connection_started(&mut self, room: usize) -> Reply {
         self.lend(room, 0);
-        unsafe { khuvelter_connection_started(self.table.as_ptr(), self.table.len(), self.answer.as_mut_ptr(), self.answer.len()) }
+        sys::connection_started(&self.table, &mut self.answer)
     }
 
     pub fn system_command(&mut self, asdu: &[u8], room: usize) -> Reply {
         self.lend(room, 0);
-        unsafe {
-            khuvelter_system_command(
-                self.table.as_mut_ptr(),
-                self.table.len(),
-                &mut self.clock,
-                asdu.as_ptr(),
-                asdu.len(),
-                self.answer.as_mut_ptr(),
-                self.answer.len(),
-            )
-        }
+        sys::system_command(&mut self.table, &mut self.clock, asdu, &mut self.answer)
     }
 
     pub fn process_command(&mut self, asdu: &[u8], proposal: &Proposal, room: usize, spontaneous_room: usize) -> Reply {
         let updates = proposal.updates.iter().flat_map(update).collect::<Vec<u8>>();
-        self.process_octets(asdu, proposal.negative as u8, proposal.reply_type, &proposal.reply, &updates, room, spontaneous_room)
+        let flat =
+            sys::Proposal { negative: proposal.negative as u8, reply_type: proposal.reply_type, reply: &proposal.reply, updates: &updates };
+        self.process_octets(asdu, flat, room, spontaneous_room)
     }
 
-    pub fn process_octets(
-        &mut self,
-        asdu: &[u8],
-        negative: u8,
-        reply_type: u8,
-        reply: &[u8],
-        updates: &[u8],
-        room: usize,
-        spontaneous_room: usize,
-    ) -> Reply {
+    pub fn process_octets(&mut self, asdu: &[u8], proposal: sys::Proposal, room: usize, spontaneous_room: usize) -> Reply {
         self.lend(room, spontaneous_room);
-        unsafe {
-            khuvelter_process_command(
-                self.table.as_mut_ptr(),
-                self.table.len(),
-                asdu.as_ptr(),
-                asdu.len(),
-                negative,
-                reply_type,
-                reply.as_ptr(),
-                reply.len(),
-                updates.as_ptr(),
-                updates.len(),
-                self.answer.as_mut_ptr(),
-                self.answer.len(),
-                self.spontaneous.as_mut_ptr(),
-                self.spontaneous.len(),
-            )
-        }
+        sys::process_command(&mut self.table, asdu, proposal, &mut self.answer, &mut self.spontaneous)
     }
 
     fn lend(&mut self, answer: usize, spontaneous: usize) {

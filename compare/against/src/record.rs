@@ -1,5 +1,5 @@
-//! Writes a list of calls and what the original says to them, in the form that crates/replay_recorded replays (reference/script.py): all
-//! that a line holds comes from the original and from document 01's rules, nothing from the proved library.
+//! Writes a list of calls and what the original says to them, in the form that crates/replay replays (reference/script.py): all that a line
+//! holds comes from the original and from document 01's rules, nothing from the proved library.
 
 use std::{fs, path::Path};
 
@@ -70,18 +70,6 @@ fn step(call: &Call) -> Vec<u8> {
     }
 }
 
-fn name(call: &Call) -> &'static str {
-    match call {
-        Call::Register(_) => "register",
-        Call::RegisterAll(_) => "batch",
-        Call::Unregister { .. } => "unregister",
-        Call::UnregisterAll => "clear",
-        Call::Started { .. } => "started",
-        Call::System { .. } => "system",
-        Call::Process { .. } => "process",
-    }
-}
-
 /// The step that lends the answer or the spontaneous memory.
 fn lend(letter: u8, length: usize, fill: u8) -> Vec<u8> {
     [&[letter][..], &low_first(length, 4), &[fill]].concat()
@@ -109,7 +97,7 @@ impl Recorder {
             for (number, room, spontaneous_room) in too_little(call, sent.len(), broadcast.len()) {
                 self.lend(memory, room, spontaneous_room);
                 self.script.extend(step(call));
-                self.line(name(call), [number as usize, 0, 0, 0], memory);
+                self.line(call.name(), [number as usize, 0, 0, 0], memory);
             }
         }
         if matches!(call, Call::Started { .. } | Call::System { .. } | Call::Process { .. }) {
@@ -123,7 +111,7 @@ impl Recorder {
             memory.clock = oracle.clock();
         }
         let place = if let Call::Register(_) = call { 0 } else { expected.place };
-        self.line(name(call), [expected.number as usize, place as usize, sent.len(), broadcast.len()], memory);
+        self.line(call.name(), [expected.number as usize, place as usize, sent.len(), broadcast.len()], memory);
     }
 
     fn history(&mut self, history: &History) {
@@ -144,7 +132,8 @@ impl Recorder {
     }
 }
 
-/// Some thousand calls of every kind: random histories, no IOA in two stations, and a part of the sweeps.
+/// Some thousand calls of every kind: random histories, no IOA in two stations, and a part of the sweeps. The script goes to the file
+/// `recorded` of the folder, the lines to its file `lines`.
 pub fn record_into(folder: &Path) -> std::io::Result<usize> {
     let mut recorder = Recorder { script: Vec::new(), lines: String::new() };
     for history in sweeps::sample() {
@@ -154,8 +143,7 @@ pub fn record_into(folder: &Path) -> std::io::Result<usize> {
         let draw = Draw::small(9_000 + seed);
         recorder.history(&draw.history(100));
     }
-    fs::create_dir_all(folder.join("data"))?;
-    fs::write(folder.join("data/script"), &recorder.script)?;
-    fs::write(folder.join("stdout"), &recorder.lines)?;
+    fs::write(folder.join("recorded"), &recorder.script)?;
+    fs::write(folder.join("lines"), &recorder.lines)?;
     Ok(recorder.lines.lines().count())
 }

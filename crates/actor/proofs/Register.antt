@@ -1,81 +1,41 @@
 -- Registration of one point, as the code goes: each way out gives the number and the memory that the effect on the table says. Assumes nothing.
-use mathlib.Core.Path.{_≡_, refl, sym, ap, ap₂, _∙_, subst}
-use mathlib.Core.List.{List, [], _∷_, _++_, map}
+use mathlib.Core.Path.{_≡_, refl, sym, ap, ap₂, _∙_}
+use mathlib.Core.List.{List}
 use mathlib.Core.Bool.{Bool, true, false}
-use mathlib.Core.Option.{Option, none, some}
+use mathlib.Core.Option.{none, some}
 use Prim.Native.Nat.{ℕ, _+_, _*_, _≤_, _<_}
 use native.Mathlib.Omega.{arith}
-use lib.ListN.{length, drop}
-use Rattle.limits.specs.Test.{_&_, pick, total}
+use Rattle.limits.specs.Test.{total}
 use Rattle.limits.specs.Outcome.{isDone}
 use Rattle.limits.specs.declared.outcome.Outcome.{Outcome}
-use Rattle.limits.specs.declared.outcome.Outcome.the-variants.{Done, AlreadyRegistered, TableNotWellFormed}
+use Rattle.limits.specs.declared.outcome.Outcome.the-variants.{Done}
 use Rattle.limits.proofs.Outcomes.{not-both, done-is, first-done}
-use Rattle.octets.specs.Number.{two, Octets}
+use Rattle.octets.specs.Number.{Octets}
 use Rattle.model.specs.declared.Request.{Request}
 use Rattle.model.specs.Request.{ownFault, pointOf}
 use Rattle.model.proofs.Requests.{Unplanned, unplanned, faultless, point-address}
 use Rattle.model.proofs.Requests.Unplanned.{unknown, station}
-use Rattle.table.specs.Table.{Station, Table, held, shareOf, image}
-use Rattle.table.specs.Memory.{tableOf, wellFormed, parse}
-use Rattle.table.specs.Change.{stationOf, seekIn, known, added}
-use Rattle.table.proofs.Parse.{holds, parse-some, parse-none}
+use Rattle.table.specs.Table.{held}
+use Rattle.table.specs.Memory.{tableOf, wellFormed}
+use Rattle.table.specs.Change.{stationOf, seekIn, known}
+use Rattle.table.proofs.Parse.{holds, parse-some}
 use Rattle.seats.specs.declared.Seat.the-variants.{Here, NotPlanned}
 use Rattle.seats.specs.declared.Spot.{Spot}
 use Rattle.seats.specs.declared.Spot.the-variants.{Held, Missing}
 use Rattle.seats.specs.Seats.{seatAt}
 use Rattle.seats.specs.Find.{findAt}
-use Rattle.seats.proofs.Laws.{Seated, Seen, seat-law, absent-law, Standing, standing}
+use Rattle.seats.proofs.Laws.{seat-law, absent-law, Standing, standing}
 use Rattle.seats.proofs.Halving.{held-law, missing-law}
-use Rattle.insert.specs.Insert.{placed}
+use Rattle.insert.specs.Insert.{placed, HasRoom}
 use Rattle.insert.proofs.Laws.{insert-parsed, insert-bounds}
 use Rattle.insert.proofs.Entry.{admitted-room}
-use Rattle.registry.specs.declared.Reply.{Reply}
-use Rattle.registry.specs.Effect.{Effect, firstFault, holding, replyFrom, memoryFrom, replyOn, memoryOn}
-use Rattle.registry.specs.Registry.{isPlanned, isRegistered, roomFault, registeredFault, requestOutcome, withRequest, registering}
+use Rattle.registry.specs.Effect.{firstFault}
+use Rattle.registry.specs.Registry.{isPlanned, isRegistered, roomFault, registeredFault, requestOutcome, registering}
 use Rattle.registry.proofs.Requests.{admitted-is}
-use Rattle.actor.specs.Actor.{reply, roomAt, spotFault, seatFault, offsetOf}
+use Rattle.replies.specs.Replies.{Replies, plainReply}
+use Rattle.replies.proofs.Ways.{refused-by, done-by}
+use Rattle.actor.specs.Actor.{roomAt, spotFault, seatFault, offsetOf}
 use Rattle.actor.proofs.Rooms.{room-law}
-
--- The number and the memory of an entry, together.
-pub record Ends (f : Table → Effect) (m : List ℕ) (r : Reply) (m′ : List ℕ) : Type 0 where
-  pub replies : r ≡ replyOn f m
-  pub leaves : m′ ≡ memoryOn f m
-
--- The two equations of a contract.
-pub ends : (f : Table → Effect) (m : List ℕ) (r : Reply) (m′ : List ℕ) → Ends f m r m′ → (r ≡ replyOn f m) × (m′ ≡ memoryOn f m)
-ends f m r m′ e = (e .replies, e .leaves)
-
--- No table: 3.
-pub ends-no-table : (f : Table → Effect) (m : List ℕ) → wellFormed m ≡ false → Ends f m (reply TableNotWellFormed) m
-unfolding replyFrom memoryFrom
-ends-no-table f m w =
-    let p : parse m ≡ none = parse-none m w in
-    record { replies = ap (replyFrom f) (sym p); leaves = ap (memoryFrom f m) (sym p) }
-
-module _ (f : Table → Effect) (m : List ℕ) (w : wellFormed m ≡ true) where
-  -- A refusal of the table's own.
-  pub ends-refused : (o : Outcome) → f (tableOf m) .outcome ≡ o → f (tableOf m) .place ≡ 0 → isDone o ≡ false → Ends f m (reply o) m
-  unfolding replyFrom memoryFrom
-  ends-refused o e z d =
-      let p : parse m ≡ some (tableOf m) = parse-some m w in
-      let d′ : isDone (f (tableOf m) .outcome) ≡ false = ap isDone e ∙ d in
-      record {
-        replies = (λ j. record { outcome = sym e j; place = sym z j }) ∙ ap (replyFrom f) (sym p);
-        leaves = sym (ap (memoryFrom f m) p ∙ simp d′);
-      }
-
-  -- Done, with the table after it stored.
-  pub ends-done : (n : ℕ) (m′ : List ℕ) → f (tableOf m) .outcome ≡ Done → f (tableOf m) .place ≡ n
-      → m′ ≡ holding m (tableOf m) (f (tableOf m) .after) → Ends f m (record { outcome = Done; place = n }) m′
-  unfolding replyFrom memoryFrom
-  ends-done n m′ e z s =
-      let p : parse m ≡ some (tableOf m) = parse-some m w in
-      let d : isDone (f (tableOf m) .outcome) ≡ true = ap isDone e in
-      record {
-        replies = (λ j. record { outcome = sym e j; place = sym z j }) ∙ ap (replyFrom f) (sym p);
-        leaves = s ∙ sym (ap (memoryFrom f m) p ∙ simp d);
-      }
 
 -- ---- registration
 
@@ -101,12 +61,12 @@ not-done o (station e) = ap isDone e
 
 module _ (m : List ℕ) (o : Octets m) (w : wellFormed m ≡ true) (q : Request) where
   -- The plan has no such station: 11 or 12.
-  pub register-absent : seatAt m (q .ca) ≡ NotPlanned → Ends (registering q) m (reply (ownFault false q)) m
+  pub register-absent : seatAt m (q .ca) ≡ NotPlanned → Replies (registering q) m (plainReply (ownFault false q)) m
   unfolding registering requestOutcome isPlanned
   register-absent e =
       let s : stationOf (q .ca) (tableOf m .stations) ≡ none = absent-law m (q .ca) e in
       let d : isDone (ownFault false q) ≡ false = not-done _ (unplanned q) in
-      ends-refused (registering q) m w (ownFault false q) (ap (requestOutcome (tableOf m) q) s ∙ simp d) refl d
+      refused-by (registering q) m w (ownFault false q) (ap (requestOutcome (tableOf m) q) s ∙ simp d) refl d
 
   module _ (i first h : ℕ) (e : seatAt m (q .ca) ≡ Here i first h) where
     -- 17 as the code finds it
@@ -138,14 +98,14 @@ module _ (m : List ℕ) (o : Octets m) (w : wellFormed m ≡ true) (q : Request)
         ∙ first-first (ownFault true q) (spotFault (findAt m first h (q .ioa))) (roomAt m i)
 
     -- Refused by its own tests: 11, 13 to 15, 17.
-    pub register-own : isDone (seatFault q (findAt m first h (q .ioa))) ≡ false → Ends (registering q) m (reply (seatFault q (findAt m first h (q .ioa)))) m
+    pub register-own : isDone (seatFault q (findAt m first h (q .ioa))) ≡ false → Replies (registering q) m (plainReply (seatFault q (findAt m first h (q .ioa)))) m
     unfolding registering
-    register-own d = ends-refused (registering q) m w _ (outcome-law ∙ simp d) refl d
+    register-own d = refused-by (registering q) m w _ (outcome-law ∙ simp d) refl d
 
     -- Refused for room: 19, 20.
-    pub register-room : isDone (seatFault q (findAt m first h (q .ioa))) ≡ true → isDone (roomAt m i) ≡ false → Ends (registering q) m (reply (roomAt m i)) m
+    pub register-room : isDone (seatFault q (findAt m first h (q .ioa))) ≡ true → isDone (roomAt m i) ≡ false → Replies (registering q) m (plainReply (roomAt m i)) m
     unfolding registering
-    register-room d r = ends-refused (registering q) m w _ (outcome-law ∙ simp d) refl r
+    register-room d r = refused-by (registering q) m w _ (outcome-law ∙ simp d) refl r
 
     -- whoever has room finds a free place
     room-place : roomAt m i ≡ Done → total held (tableOf m .stations) < tableOf m .capacity
@@ -173,8 +133,7 @@ module _ (m : List ℕ) (o : Octets m) (w : wellFormed m ≡ true) (q : Request)
 
     -- What `insert` asks of the numbers.
     pub register-bounds : isDone (seatFault q (findAt m first h (q .ioa))) ≡ true → isDone (roomAt m i) ≡ true
-        → (64 + 48 * two m 4 + 8 * two m 6 ≤ length m) × (two m 8 < two m 4) × (i < two m 6) × (h < 65535)
-        × (offsetOf (findAt m first h (q .ioa)) ≤ 64 + 48 * two m 8) × (pointOf q .ioa < 16777216)
+        → (pointOf q .ioa < 16777216) × HasRoom m i h (offsetOf (findAt m first h (q .ioa)))
     unfolding seatFault
     register-bounds d r =
         let z = seat-law m (q .ca) i first h o w e in
@@ -182,13 +141,13 @@ module _ (m : List ℕ) (o : Octets m) (w : wellFormed m ≡ true) (q : Request)
         let b = insert-bounds (tableOf m) m (q .ca) (pointOf q .ioa) (z .seat .s) (z .seat .found) i h _ (gl .0) (gl .1) (room-place (done-is _ r)) (goes d) in
         let a : q .ioa ≤ 16777215 = faultless true q (first-done (ownFault true q) (spotFault (findAt m first h (q .ioa))) (done-is (seatFault q (findAt m first h (q .ioa))) d) .0) .address in
         let p = point-address q in
-        (b .0, b .1, b .2, b .3, b .4, omega arith)
+        (omega arith, b)
 
     -- Done: the point is in its place.
     pub register-done : isDone (seatFault q (findAt m first h (q .ioa))) ≡ true → isDone (roomAt m i) ≡ true
-        → Ends (registering q) m (reply Done) (placed m (q .ca) (pointOf q) i h (offsetOf (findAt m first h (q .ioa))))
+        → Replies (registering q) m (plainReply Done) (placed m (q .ca) (pointOf q) i h (offsetOf (findAt m first h (q .ioa))))
     unfolding registering
     register-done d r =
         let z = seat-law m (q .ca) i first h o w e in
-        ends-done (registering q) m w 0 _ (outcome-law ∙ simp d (done-is _ r)) refl
+        done-by (registering q) m w 0 _ (outcome-law ∙ simp d (done-is _ r)) refl
         (insert-parsed m (tableOf m) (q .ca) (pointOf q) (z .seat .s) (z .seat .found) i h _ o (parse-some m w) (room-place (done-is _ r)) (goes d))

@@ -1,17 +1,14 @@
 -- Removal of one point and of all, and a station's share, as the code goes: each way out gives what the definition says. Assumes nothing.
 use mathlib.Core.Path.{_≡_, refl, sym, ap, _∙_}
 use mathlib.Core.List.{List}
-use mathlib.Core.Bool.{Bool, true, false}
-use mathlib.Core.Option.{Option, none, some}
-use Prim.Native.Nat.{ℕ, _+_, _*_, _-_}
-use Rattle.limits.specs.Test.{pick, total}
-use Rattle.limits.specs.Outcome.{isDone}
-use Rattle.limits.specs.declared.outcome.Outcome.{Outcome}
+use mathlib.Core.Bool.{true, false}
+use Prim.Native.Nat.{ℕ}
 use Rattle.limits.specs.declared.outcome.Outcome.the-variants.{Done, NotRegistered, TableNotWellFormed, StationNotPlanned}
-use Rattle.octets.specs.Number.{two, Octets}
-use Rattle.table.specs.Table.{Station, Table, held, unmet, shareOf}
-use Rattle.table.specs.Memory.{tableOf, wellFormed, parse}
-use Rattle.table.specs.Change.{stationOf, known, removed, emptied}
+use Rattle.octets.specs.Number.{Octets}
+use Rattle.layout.specs.Layout.{pointsIn}
+use Rattle.table.specs.Table.{held, unmet}
+use Rattle.table.specs.Memory.{tableOf, wellFormed}
+use Rattle.table.specs.Change.{stationOf, known}
 use Rattle.table.proofs.Parse.{parse-some, parse-none}
 use Rattle.seats.specs.declared.Seat.the-variants.{Here, NotPlanned}
 use Rattle.seats.specs.declared.Spot.the-variants.{Held, Missing}
@@ -21,31 +18,31 @@ use Rattle.seats.proofs.Laws.{seat-law, absent-law}
 use Rattle.seats.proofs.Halving.{missing-law}
 use Rattle.remove.specs.Remove.{takenOut, allTakenOut}
 use Rattle.remove.proofs.Entry.{take-out-law, take-all-out-law}
-use Rattle.registry.specs.declared.StationShare.{StationShare}
-use Rattle.registry.specs.Effect.{Effect, accepted, refused}
+use Rattle.registry.specs.Effect.{Effect, refused}
 use Rattle.registry.specs.Registry.{isRegistered, unregistering, unregisteringAll, noShare, shareIn, shareFrom, shareOn}
-use Rattle.actor.specs.Actor.{reply, stationShareAt}
+use Rattle.replies.specs.Replies.{Replies, plainReply}
+use Rattle.replies.proofs.Ways.{refused-by, done-by}
+use Rattle.actor.specs.Actor.{stationShareAt}
 use Rattle.actor.proofs.Rooms.{station-share, free-is, unmet-is}
-use Rattle.actor.proofs.Register.{Ends, ends-refused, ends-done}
 
 module _ (m : List ℕ) (w : wellFormed m ≡ true) (ca ioa : ℕ) where
   not-registered : isRegistered ioa (stationOf ca (tableOf m .stations)) ≡ false → unregistering ca ioa (tableOf m) ≡ refused NotRegistered 0 (tableOf m)
   unfolding unregistering
   not-registered e = simp e
 
-  out-refused : isRegistered ioa (stationOf ca (tableOf m .stations)) ≡ false → Ends (unregistering ca ioa) m (reply NotRegistered) m
+  out-refused : isRegistered ioa (stationOf ca (tableOf m .stations)) ≡ false → Replies (unregistering ca ioa) m (plainReply NotRegistered) m
   out-refused e =
       let u = not-registered e in
-      ends-refused (unregistering ca ioa) m w NotRegistered (ap (λ (x : Effect). x .outcome) u) (ap (λ (x : Effect). x .place) u) refl
+      refused-by (unregistering ca ioa) m w NotRegistered (ap (λ (x : Effect). x .outcome) u) (ap (λ (x : Effect). x .place) u) refl
 
   -- The plan has no such station: 18.
-  pub out-absent : seatAt m ca ≡ NotPlanned → Ends (unregistering ca ioa) m (reply NotRegistered) m
+  pub out-absent : seatAt m ca ≡ NotPlanned → Replies (unregistering ca ioa) m (plainReply NotRegistered) m
   unfolding isRegistered
   out-absent e = out-refused (ap (isRegistered ioa) (absent-law m ca e))
 
   module _ (o : Octets m) (i first h : ℕ) (e : seatAt m ca ≡ Here i first h) where
     -- The station has no such point: 18.
-    pub out-missing : (at : ℕ) → findAt m first h ioa ≡ Missing at → Ends (unregistering ca ioa) m (reply NotRegistered) m
+    pub out-missing : (at : ℕ) → findAt m first h ioa ≡ Missing at → Replies (unregistering ca ioa) m (plainReply NotRegistered) m
     unfolding isRegistered
     out-missing at p =
         let z = seat-law m ca i first h o w e in
@@ -53,19 +50,19 @@ module _ (m : List ℕ) (w : wellFormed m ≡ true) (ca ioa : ℕ) where
         out-refused (ap (isRegistered ioa) (z .seat .is-station) ∙ k)
 
     -- Done: the point is gone.
-    pub out-done : (at : ℕ) → findAt m first h ioa ≡ Held at → Ends (unregistering ca ioa) m (reply Done) (takenOut m i h at)
+    pub out-done : (at : ℕ) → findAt m first h ioa ≡ Held at → Replies (unregistering ca ioa) m (plainReply Done) (takenOut m i h at)
     unfolding unregistering isRegistered
     out-done at p =
         let z = take-out-law m ca ioa i first h at o w e p in
         let k : isRegistered ioa (stationOf ca (tableOf m .stations)) ≡ true = ap (isRegistered ioa) (z .is-station) ∙ z .is-known in
-        ends-done (unregistering ca ioa) m w 0 _ (simp k) (simp k) (z .memory ∙ sym (simp k))
+        done-by (unregistering ca ioa) m w 0 _ (simp k) (simp k) (z .memory ∙ sym (simp k))
 
 -- Done: all points are gone, and their number is given back.
-pub all-done : (m : List ℕ) → Octets m → wellFormed m ≡ true → Ends unregisteringAll m (record { outcome = Done; place = two m 8 }) (allTakenOut m)
+pub all-done : (m : List ℕ) → Octets m → wellFormed m ≡ true → Replies unregisteringAll m (record { outcome = Done; place = pointsIn m }) (allTakenOut m)
 unfolding unregisteringAll
 all-done m o w =
     let z = take-all-out-law m o w in
-    ends-done unregisteringAll m w (two m 8) _ refl (sym (z .count)) (z .memory)
+    done-by unregisteringAll m w (pointsIn m) _ refl (sym (z .count)) (z .memory)
 
 -- ---- a station's share
 

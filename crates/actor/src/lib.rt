@@ -1,55 +1,56 @@
 // Registration and removal of one point, removal of all, and the share of a station. From `actor.rs`: `register_one_point`, `Unregister`, `UnregisterAll`.
 // Every entry tests everything itself: any octets may be lent as the table, and any numbers be given.
+use layout::HEAD_SIZE;
+use layout::PLACE_SIZE;
 use limits::outcome::Outcome;
-use limits::share::Admission;
+use limits::share::Share;
 use model::Request;
 use registry::Reply;
 use registry::StationShare;
+use replies::reply_of;
 use seats::Seat;
 use seats::Spot;
 ghost use mathlib.Core.Path.{_≡_};
 ghost use mathlib.Core.Bool.{true};
-ghost use Prim.Native.Nat.{_+_, _*_, _-_, _≤_, _<_};
-ghost use lib.ListN.{length};
-ghost use Rattle.octets.specs.Number.{two};
 ghost use Rattle.table.specs.Memory.{wellFormed};
 ghost use Rattle.seats.specs.Seats.{seatAt};
-ghost use Rattle.registry.specs.Effect.{replyOn, memoryOn};
-ghost use Rattle.registry.specs.Registry.{admissionOutcome, registering, unregistering, unregisteringAll, shareOn, noShare};
-ghost use Rattle.actor.specs.Actor.{reply, roomAt, seatFault, offsetOf, stationShareAt};
+ghost use Rattle.replies.specs.Replies.{Replies};
+ghost use Rattle.registry.specs.Registry.{registering, unregistering, unregisteringAll, shareOn, noShare};
+ghost use Rattle.actor.specs.Actor.{HasStation, roomAt, seatFault, offsetOf, stationShareAt};
 
-// A number with no place.
-fn reply_of(outcome: Outcome) -> Reply
-    ensures { λ r. ⌜ r ≡ reply outcome ⌝ }
+// The share of the station of index i.
+fn share_here(m: &[u8], i: usize) -> StationShare
+    requires { ⌜ HasStation (now m) i ⌝ }
+    ensures { λ r. ⌜ r ≡ stationShareAt (now (m .entry)) i ⌝ }
 {
-    Reply {
-        outcome: outcome,
-        place: 0,
-    }
-}
-
-// The outcome that goes with what the share rule answers.
-fn outcome_of(admission: Admission) -> Outcome
-    ensures { λ r. ⌜ r ≡ admissionOutcome admission ⌝ }
-{
-    match admission {
-        Admission::Admitted => Outcome::Done,
-        Admission::CeilingReached => Outcome::CeilingReached,
-        Admission::NoRoom => Outcome::NotAdmitted,
+    let k = layout::capacity_of(m);
+    let n = layout::stations_of(m);
+    let points = layout::points_of(m);
+    let sums = wellformed::add_up(m, HEAD_SIZE + PLACE_SIZE * k, n);
+    let station = layout::station_at(m, i);
+    let share = wellformed::share_at(m, station);
+    StationShare {
+        outcome: Outcome::Done,
+        reservation: share.reservation,
+        ceiling: share.ceiling,
+        held: share.held,
+        free: k - points,
+        unmet: sums.unmet,
     }
 }
 
 // The share rule's answer to one more point of the station of index i.
 fn room_at(m: &[u8], i: usize) -> Outcome
-    requires { ⌜ (64 + 48 * two (now m) 4 + 8 * two (now m) 6 ≤ length (now m)) × (i < two (now m) 6) × (two (now m) 6 ≤ 64) × (two (now m) 8 ≤ two (now m) 4) ⌝ }
+    requires { ⌜ HasStation (now m) i ⌝ }
     ensures { λ r. ⌜ r ≡ roomAt (now (m .entry)) i ⌝ }
 {
-    let k = octets::two_at(m, 4);
-    let n = octets::two_at(m, 6);
-    let points = octets::two_at(m, 8);
-    let sums = wellformed::add_up(m, 64 + 48 * k, n);
-    let share = wellformed::share_at(m, 64 + 48 * k + 8 * i);
-    outcome_of(share.admission(k - points, sums.unmet))
+    let here = share_here(m, i);
+    let share = Share {
+        held: here.held,
+        reservation: here.reservation,
+        ceiling: here.ceiling,
+    };
+    replies::outcome_of(share.admission(here.free, here.unmet))
 }
 
 // The tests 11 and 13 to 15 of a request whose station is planned, and 17: has its address a point already?
@@ -79,7 +80,7 @@ fn offset_of(spot: Spot) -> usize
 // Registers a point of a planned station, whose seat was found in a well-formed table.
 fn register_here(table: &mut [u8], q: Request, i: usize, first: usize, h: usize) -> Reply
     requires { ⌜ (wellFormed (now table) ≡ true) × (seatAt (now table) (q .ca) ≡ Seat.Here i first h) ⌝ }
-    ensures { λ r. ⌜ (r ≡ replyOn (registering q) (now (table .entry))) × (now (table .exit) ≡ memoryOn (registering q) (now (table .entry))) ⌝ }
+    ensures { λ r. ⌜ Replies (registering q) (now (table .entry)) r (now (table .exit)) ⌝ }
 {
     let spot = seats::find(table, first, h, q.ioa as usize);
     let own = seat_fault(q, spot);
@@ -103,7 +104,7 @@ fn register_here(table: &mut [u8], q: Request, i: usize, first: usize, h: usize)
 
 // Registers one point: 3, then 11 to 15 and 17 in order, then 19 and 20; with 0 the point is in its place.
 pub fn register_point(table: &mut [u8], q: Request) -> Reply
-    ensures { λ r. ⌜ (r ≡ replyOn (registering q) (now (table .entry))) × (now (table .exit) ≡ memoryOn (registering q) (now (table .entry))) ⌝ }
+    ensures { λ r. ⌜ Replies (registering q) (now (table .entry)) r (now (table .exit)) ⌝ }
 {
     if !wellformed::well_formed(table) {
         return reply_of(Outcome::TableNotWellFormed);
@@ -116,7 +117,7 @@ pub fn register_point(table: &mut [u8], q: Request) -> Reply
 
 // Removes one point: 3, then 18; with 0 its room is free at once.
 pub fn unregister_point(table: &mut [u8], ca: u16, ioa: u32) -> Reply
-    ensures { λ r. ⌜ (r ≡ replyOn (unregistering ca ioa) (now (table .entry))) × (now (table .exit) ≡ memoryOn (unregistering ca ioa) (now (table .entry))) ⌝ }
+    ensures { λ r. ⌜ Replies (unregistering ca ioa) (now (table .entry)) r (now (table .exit)) ⌝ }
 {
     if !wellformed::well_formed(table) {
         return reply_of(Outcome::TableNotWellFormed);
@@ -133,7 +134,7 @@ pub fn unregister_point(table: &mut [u8], ca: u16, ioa: u32) -> Reply
 
 // Removes all points: 3, else their number; the plan stays.
 pub fn unregister_all(table: &mut [u8]) -> Reply
-    ensures { λ r. ⌜ (r ≡ replyOn unregisteringAll (now (table .entry))) × (now (table .exit) ≡ memoryOn unregisteringAll (now (table .entry))) ⌝ }
+    ensures { λ r. ⌜ Replies unregisteringAll (now (table .entry)) r (now (table .exit)) ⌝ }
 {
     if !wellformed::well_formed(table) {
         return reply_of(Outcome::TableNotWellFormed);
@@ -156,26 +157,6 @@ fn no_share(outcome: Outcome) -> StationShare
         held: 0,
         free: 0,
         unmet: 0,
-    }
-}
-
-// The share of the station of index i.
-fn share_here(m: &[u8], i: usize) -> StationShare
-    requires { ⌜ (64 + 48 * two (now m) 4 + 8 * two (now m) 6 ≤ length (now m)) × (i < two (now m) 6) × (two (now m) 6 ≤ 64) × (two (now m) 8 ≤ two (now m) 4) ⌝ }
-    ensures { λ r. ⌜ r ≡ stationShareAt (now (m .entry)) i ⌝ }
-{
-    let k = octets::two_at(m, 4);
-    let n = octets::two_at(m, 6);
-    let points = octets::two_at(m, 8);
-    let sums = wellformed::add_up(m, 64 + 48 * k, n);
-    let share = wellformed::share_at(m, 64 + 48 * k + 8 * i);
-    StationShare {
-        outcome: Outcome::Done,
-        reservation: share.reservation,
-        ceiling: share.ceiling,
-        held: share.held,
-        free: k - points,
-        unmet: sums.unmet,
     }
 }
 

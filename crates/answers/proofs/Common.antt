@@ -12,11 +12,12 @@ use Rattle.limits.specs.Test.{pick}
 use Rattle.limits.specs.Outcome.{isDone}
 use Rattle.limits.specs.declared.outcome.Outcome.{Outcome}
 use Rattle.limits.proofs.Outcomes.{not-both}
+use Rattle.asdu.specs.Header.{Asdu, wire}
 use Rattle.table.specs.Table.{Table}
 use Rattle.table.specs.Memory.{parse}
 use Rattle.registry.specs.Effect.{Effect, holding, memoryFrom, memoryOn, replyFrom, replyOn}
 use Rattle.answers.specs.declared.Answered.{Answered}
-use Rattle.answers.specs.Said.{Said, Lent, outcomeWith, answeredFrom, lentFrom, answeredOn, lentAfter, fronted}
+use Rattle.answers.specs.Said.{Said, Lent, outcomeWith, answeredFrom, lentFrom, answeredOn, lentAfter, size, fronted}
 
 module _ (f : Table → Said) (l : Lent) where
   -- Every number but 0 reports zero octets in both memories, and every memory is as it was.
@@ -31,8 +32,8 @@ module _ (f : Table → Said) (l : Lent) where
       of-parsed (some t) e′ = (simp e′, simp e′, simp e′)
 
 -- Past the octets at its front a memory is as it was.
-pub past-the-front : (octets memory : List ℕ) → drop (length octets) (fronted octets memory) ≡ drop (length octets) memory
-past-the-front octets memory = drop-append-seam octets (drop (length octets) memory)
+pub past-the-front : (asdus : List Asdu) (memory : List ℕ) → drop (size asdus) (fronted asdus memory) ≡ drop (size asdus) memory
+past-the-front asdus memory = drop-append-seam (wire asdus) (drop (size asdus) memory)
 
 -- With 0, memory past the reported octets is as it was, in the answer and in the spontaneous memory.
 pub past-the-reported : (f : Table → Said) (l : Lent) → isDone (answeredOn f l .outcome) ≡ true

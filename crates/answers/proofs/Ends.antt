@@ -15,34 +15,36 @@ use Rattle.limits.specs.declared.outcome.Outcome.{Outcome}
 use Rattle.limits.specs.declared.outcome.Outcome.the-variants.{Done, TableNotWellFormed, AnswerShort}
 use Rattle.octets.specs.Number.{Octets}
 use Rattle.octets.specs.Over.{over}
+use Rattle.asdu.specs.Header.{Asdu, wire}
+use Rattle.asdu.specs.Joined.{joined}
 use Rattle.table.specs.Table.{Table}
 use Rattle.table.specs.Memory.{tableOf, wellFormed, parse}
 use Rattle.table.proofs.Parse.{passed, printed, parse-some, parse-none}
 use Rattle.registry.specs.Effect.{holding}
 use Rattle.answers.specs.declared.Answered.{Answered}
-use Rattle.answers.specs.Said.{Said, Lent, lent, says, fits, fronted, outcomeWith, answeredFrom, lentFrom, answeredOn, lentAfter, Leaves, asItIs, nothing, given, sent, left, Sends, withTable}
+use Rattle.answers.specs.Said.{Said, Lent, lent, says, size, fits, fronted, outcomeWith, answeredFrom, lentFrom, answeredOn, lentAfter, Leaves, asItIs, nothing, given, sent, left, Sends, withTable}
 
 -- What is written at the front of a memory, in the words of `octets` and of `Said`.
-pub front-is : (m xs : List ℕ) → over m 0 xs ≡ fronted xs m
+pub front-is : (m : List ℕ) (xs : List Asdu) → over m 0 (wire xs) ≡ fronted xs m
 unfolding over
-front-is m xs = ap (λ (n : ℕ). xs ++ drop n m) (zero-add (length xs))
+front-is m xs = ap (λ (n : ℕ). wire xs ++ drop n m) (zero-add (size xs))
 
 -- ---- an answer written whole or not at all
 
-module _ (X m : List ℕ) where
+module _ (X : List Asdu) (m : List ℕ) where
   -- It does not fit.
-  pub sends-nothing : length m < length X → Sends X m (nothing AnswerShort) m
+  pub sends-nothing : length m < size X → Sends X m (nothing AnswerShort) m
   unfolding sent left
   sends-nothing h = record { answers = sym (simp (lt-leb _ _ h)); leaves = sym (simp (lt-leb _ _ h)) }
 
   -- It fits.
-  pub sends-all : (n : ℕ) (m′ : List ℕ) → length X ≤ length m → n ≡ length X → m′ ≡ over m 0 X → Sends X m (given n) m′
+  pub sends-all : (n : ℕ) (m′ : List ℕ) → size X ≤ length m → n ≡ size X → m′ ≡ over m 0 (wire X) → Sends X m (given n) m′
   unfolding sent left
   sends-all n m′ h e f = record { answers = ap given e ∙ sym (simp (le-leb _ _ h)); leaves = f ∙ front-is m X ∙ sym (simp (le-leb _ _ h)) }
 
--- The same of octets that are equal.
-pub sends-along : (X Y m m′ : List ℕ) (r : Answered) → X ≡ Y → Sends X m r m′ → Sends Y m r m′
-sends-along X Y m m′ r e s = record { answers = s .answers ∙ ap (λ (Z : List ℕ). sent Z m) e; leaves = s .leaves ∙ ap (λ (Z : List ℕ). left Z m) e }
+-- The same of answers that are equal.
+pub sends-along : (X Y : List Asdu) (m m′ : List ℕ) (r : Answered) → X ≡ Y → Sends X m r m′ → Sends Y m r m′
+sends-along X Y m m′ r e s = record { answers = s .answers ∙ ap (λ (Z : List Asdu). sent Z m) e; leaves = s .leaves ∙ ap (λ (Z : List Asdu). left Z m) e }
 
 -- ---- the ways out of an entry
 
@@ -71,20 +73,20 @@ module _ (f : Table → Said) (l : Lent) (w : wellFormed (l .table) ≡ true) wh
   ends-refused o e d = ends-nothing o (let d′ : isDone (f (tableOf (l .table)) .outcome) ≡ false = ap isDone e ∙ d in simp d′ e) d
 
   -- An answer that does not fit: 4.
-  pub ends-short : f (tableOf (l .table)) .outcome ≡ Done → f (tableOf (l .table)) .told ≡ [] → length (l .answer) < length (f (tableOf (l .table)) .answer)
+  pub ends-short : f (tableOf (l .table)) .outcome ≡ Done → f (tableOf (l .table)) .told ≡ [] → length (l .answer) < size (f (tableOf (l .table)) .answer)
       → Leaves asItIs f l (nothing AnswerShort) l
-  unfolding outcomeWith
+  unfolding outcomeWith wire joined
   ends-short e q h = ends-nothing AnswerShort (simp (e, q, le-leb 0 (length (l .spontaneous)) (omega arith), lt-leb _ _ h)) refl
 
   -- the outcome of an answer that fits
-  fits-is : f (tableOf (l .table)) .outcome ≡ Done → f (tableOf (l .table)) .told ≡ [] → length (f (tableOf (l .table)) .answer) ≤ length (l .answer)
+  fits-is : f (tableOf (l .table)) .outcome ≡ Done → f (tableOf (l .table)) .told ≡ [] → size (f (tableOf (l .table)) .answer) ≤ length (l .answer)
       → outcomeWith (f (tableOf (l .table))) l ≡ Done
-  unfolding outcomeWith
+  unfolding outcomeWith wire joined
   fits-is e q h = simp (e, q, le-leb 0 (length (l .spontaneous)) (omega arith), le-leb _ _ h)
 
   -- An answer that fits, n octets of it, from a command that tells nothing.
   pub ends-done : (n : ℕ) (l′ : Lent) → f (tableOf (l .table)) .outcome ≡ Done → f (tableOf (l .table)) .told ≡ []
-      → n ≡ length (f (tableOf (l .table)) .answer) → n ≤ length (l .answer)
+      → n ≡ size (f (tableOf (l .table)) .answer) → n ≤ length (l .answer)
       → l′ ≡ record {
         table = holding (l .table) (tableOf (l .table)) (f (tableOf (l .table)) .after);
         clock = f (tableOf (l .table)) .clock;
@@ -92,7 +94,7 @@ module _ (f : Table → Said) (l : Lent) (w : wellFormed (l .table) ≡ true) wh
         spontaneous = l .spontaneous;
       }
       → Leaves asItIs f l (record { outcome = Done; octets = n; spontaneous = 0 }) l′
-  unfolding answeredFrom lentFrom
+  unfolding answeredFrom lentFrom wire joined
   ends-done n l′ e q k h s =
       let d : outcomeWith (f (tableOf (l .table))) l ≡ Done = fits-is e q (omega arith) in
       record {
@@ -101,7 +103,7 @@ module _ (f : Table → Said) (l : Lent) (w : wellFormed (l .table) ≡ true) wh
       }
 
   -- An answer X that was written whole or not at all; the table and the clock change only if it was.
-  pub ends-sent : (X : List ℕ) → f (tableOf (l .table)) .outcome ≡ Done → f (tableOf (l .table)) .told ≡ [] → f (tableOf (l .table)) .answer ≡ X
+  pub ends-sent : (X : List Asdu) → f (tableOf (l .table)) .outcome ≡ Done → f (tableOf (l .table)) .told ≡ [] → f (tableOf (l .table)) .answer ≡ X
       → (r : Answered) (table clock answer : List ℕ) → Sends X (l .answer) r answer
       → table ≡ pick (isDone (r .outcome)) (holding (l .table) (tableOf (l .table)) (f (tableOf (l .table)) .after)) (l .table)
       → clock ≡ pick (isDone (r .outcome)) (f (tableOf (l .table)) .clock) (l .clock)
@@ -109,18 +111,18 @@ module _ (f : Table → Said) (l : Lent) (w : wellFormed (l .table) ≡ true) wh
   unfolding sent left
   ends-sent X d q x r table clock answer s et ec = by-test (fits X (l .answer)) refl (s .answers) (s .leaves)
     where
-      by-test : (b : Bool) → fits X (l .answer) ≡ b → r ≡ pick b (given (length X)) (nothing AnswerShort) → answer ≡ pick b (fronted X (l .answer)) (l .answer)
+      by-test : (b : Bool) → fits X (l .answer) ≡ b → r ≡ pick b (given (size X)) (nothing AnswerShort) → answer ≡ pick b (fronted X (l .answer)) (l .answer)
           → Leaves asItIs f l r (lent table clock answer (l .spontaneous))
       by-test true e er ea =
-          let h : length X ≤ length (l .answer) = leb-true _ _ e in
+          let h : size X ≤ length (l .answer) = leb-true _ _ e in
           let D : isDone (r .outcome) ≡ true = ap (λ (y : Answered). isDone (y .outcome)) er in
           let et′ : table ≡ holding (l .table) (tableOf (l .table)) (f (tableOf (l .table)) .after) = simp D at et in
           let ec′ : clock ≡ f (tableOf (l .table)) .clock = simp D at ec in
-          let ea′ : answer ≡ fronted (f (tableOf (l .table)) .answer) (l .answer) = ea ∙ ap (λ (v : List ℕ). fronted v (l .answer)) (sym x) in
-          let z = ends-done (length X) (lent table clock answer (l .spontaneous)) d q (ap length (sym x)) h (λ j. lent (et′ j) (ec′ j) (ea′ j) (l .spontaneous)) in
+          let ea′ : answer ≡ fronted (f (tableOf (l .table)) .answer) (l .answer) = ea ∙ ap (λ (v : List Asdu). fronted v (l .answer)) (sym x) in
+          let z = ends-done (size X) (lent table clock answer (l .spontaneous)) d q (ap size (sym x)) h (λ j. lent (et′ j) (ec′ j) (ea′ j) (l .spontaneous)) in
           record { answers = er ∙ z .answers; leaves = z .leaves }
       by-test false e er ea =
-          let h : length (l .answer) < length X = leb-false _ _ e in
+          let h : length (l .answer) < size X = leb-false _ _ e in
           let D : isDone (r .outcome) ≡ false = ap (λ (y : Answered). isDone (y .outcome)) er in
           let et′ : table ≡ l .table = simp D at et in
           let ec′ : clock ≡ l .clock = simp D at ec in
@@ -128,7 +130,7 @@ module _ (f : Table → Said) (l : Lent) (w : wellFormed (l .table) ≡ true) wh
           record { answers = er ∙ z .answers; leaves = (λ j. lent (et′ j) (ec′ j) (ea j) (l .spontaneous)) ∙ z .leaves }
 
   -- The same of a command that leaves the table.
-  pub ends-says : Octets (l .table) → (X clock : List ℕ) → f (tableOf (l .table)) ≡ says X (tableOf (l .table)) clock
+  pub ends-says : Octets (l .table) → (X : List Asdu) (clock : List ℕ) → f (tableOf (l .table)) ≡ says X (tableOf (l .table)) clock
       → (r : Answered) (clock′ answer : List ℕ) → Sends X (l .answer) r answer → clock′ ≡ pick (isDone (r .outcome)) clock (l .clock)
       → Leaves asItIs f l r (lent (l .table) clock′ answer (l .spontaneous))
   ends-says o X clock e r clock′ answer s ec =

@@ -12,7 +12,7 @@ use Rattle.limits.specs.Outcome.{isDone}
 use Rattle.model.specs.declared.Point.{Point}
 use Rattle.table.specs.Table.{Station, Table, good, rising}
 use Rattle.table.specs.Settings.{limitOf}
-use Rattle.table.specs.Change.{stationOf, withPoints, changed, pointIn}
+use Rattle.table.specs.Change.{stationOf, withPoints, withStations, changed, pointIn}
 use Rattle.table.proofs.Parse.{Good, good-is, is-good}
 use Rattle.table.proofs.Change.{Found, station-found, station-rises}
 use Rattle.registry.specs.Effect.{Effect, next}
@@ -27,8 +27,9 @@ use Rattle.report.specs.Order.{pointsOf}
 use Rattle.answers.specs.declared.Choice.{Choice}
 use Rattle.answers.specs.declared.Choice.the-variants.{Selected, Denied}
 use Rattle.answers.specs.Said.{Said, Lent, outcomeWith}
-use Rattle.answers.specs.System.{chosen, qualifierOf, resetIn, resetAt, resetBy, resets, afterCounters, commandSaid, systemFrom, systemSaid, isSilent, interrogationType, countersType, readType, clockType}
-use Rattle.answers.specs.Process.{Update, Proposal, updatesAt, updated, updateOf, replaceIn, tableWith, tableAfter, readUpdates, processCauseTaken, proposalOk, processFrom, processSaid}
+use Rattle.answers.specs.System.{chosen, qualifierOf, resetIn, resetAt, resetBy, resets, afterCounters, commandSaid, systemFrom, systemSaid, isSilent, interrogationType, countersType, readType}
+use Rattle.answers.specs.Process.{Update, Proposal, updateOctets, updatesAt, updated, updateOf, replaceIn, tableWith, tableAfter, readUpdates, processCauseTaken, proposalOk, processFrom, processSaid}
+use Rattle.answers.specs.Start.{startSaid}
 use Rattle.answers.proofs.Common.{effectIn}
 use Rattle.answers.proofs.Values.{reset-gentle, point-in, updated-ok, replace-gentle}
 
@@ -81,7 +82,7 @@ reset-still : (t : Table) (ca : ℕ) (sel : Selection) → Still t (resetAt t ca
 unfolding resetAt
 reset-still t ca sel = by-test (eqb ca globalAddress)
   where
-    by-test : (b : Bool) → Still t (pick b (record { capacity = t .capacity; stations = map (withPoints (resetIn sel)) (t .stations) }) (changed t ca (resetIn sel)))
+    by-test : (b : Bool) → Still t (pick b (withStations (map (withPoints (resetIn sel)) (t .stations)) t) (changed t ca (resetIn sel)))
     by-test true =
         record {
           capacity = refl;
@@ -112,7 +113,7 @@ unfolding commandSaid
 command-still clock m c t =
     pick-still t (eqb (c .kind) interrogationType) _ _ (still-same t)
     (pick-still t (eqb (c .kind) countersType) _ _ (counters-still t (c .ca) (qualifierOf m))
-    (pick-still t (eqb (c .kind) readType) _ _ (still-same t) (pick-still t (eqb (c .kind) clockType) _ _ (still-same t) (still-same t))))
+    (pick-still t (eqb (c .kind) readType) _ _ (still-same t) (still-same t)))
 
 system-still : (clock m : List ℕ) (r : Reading) (t : Table) → Still t (systemFrom clock m r t .after)
 unfolding systemFrom
@@ -125,6 +126,12 @@ system-still clock m (Parsed c) t = pick-still t (isSilent c m) _ _ (still-same 
 pub system-quiet : (m : List ℕ) (l : Lent) → Quiet (effectIn (systemSaid (l .clock) m) l)
 system-quiet m l = still-quiet (systemSaid (l .clock) m) l (λ t. system-still (l .clock) m _ t)
 
+-- ---- the start of a connection
+
+-- It is quiet.
+pub start-quiet : (l : Lent) → Quiet (effectIn (startSaid (l .clock)) l)
+start-quiet l = still-quiet (startSaid (l .clock)) l still-same
+
 -- ---- process commands
 
 -- Updates as their records have them: twelve octets of value.
@@ -135,7 +142,7 @@ AllWhole (u ∷ us) = (length (u .value) ≡ 12) × AllWhole us
 pub updates-whole : (m : List ℕ) (at n : ℕ) → AllWhole (updatesAt m at n)
 unfolding AllWhole updatesAt
 updates-whole m at zero = tt
-updates-whole m at (suc n) = (refl, updates-whole m (at + 18) n)
+updates-whole m at (suc n) = (refl, updates-whole m (at + updateOctets) n)
 
 -- the point that an update means in a good table, and what it becomes
 update-ok : (t : Table) (u : Update) (p : Point) → Good t → length (u .value) ≡ 12 → updateOf t u ≡ some p → Gentle (replaceIn p)
@@ -180,16 +187,16 @@ read-whole p w = by-test (p .negative)
     by-test true = tt
     by-test false = w
 
-process-still : (p : Proposal) → AllWhole (p .updates) → (r : Reading) (t : Table) → Still t (processFrom p r t .after)
+process-still : (clock : List ℕ) (p : Proposal) → AllWhole (p .updates) → (r : Reading) (t : Table) → Still t (processFrom clock p r t .after)
 unfolding processFrom
-process-still p w LengthOutOfRange t = still-same t
-process-still p w TypeNotServed t = still-same t
-process-still p w ObjectsNotWhole t = still-same t
-process-still p w (Parsed c) t =
+process-still clock p w LengthOutOfRange t = still-same t
+process-still clock p w TypeNotServed t = still-same t
+process-still clock p w ObjectsNotWhole t = still-same t
+process-still clock p w (Parsed c) t =
     pick-still t (processCauseTaken (c .cause)) _ _
     (pick-still t (proposalOk (limitOf t) (p .kind) (p .objects)) _ _ (updates-still t (readUpdates p) (read-whole p w)) (still-same t))
     (still-same t)
 
 -- Every process command is quiet.
-pub process-quiet : (p : Proposal) → AllWhole (p .updates) → (m : List ℕ) (l : Lent) → Quiet (effectIn (processSaid p m) l)
-process-quiet p w m l = still-quiet (processSaid p m) l (λ t. process-still p w _ t)
+pub process-quiet : (p : Proposal) → AllWhole (p .updates) → (m : List ℕ) (l : Lent) → Quiet (effectIn (processSaid (l .clock) p m) l)
+process-quiet p w m l = still-quiet (processSaid (l .clock) p m) l (λ t. process-still (l .clock) p w _ t)

@@ -11,6 +11,7 @@ use Rattle.limits.specs.declared.outcome.Outcome.{Outcome}
 use Rattle.limits.specs.declared.outcome.Outcome.the-variants.{Done, Silent, BadProposal}
 use Rattle.octets.specs.Number.{two, three, twelve}
 use Rattle.model.specs.declared.Point.{Point}
+use Rattle.model.specs.Place.{withValue}
 use Rattle.model.specs.Request.{element}
 use Rattle.table.specs.Table.{Station, Table}
 use Rattle.table.specs.Settings.{limitOf}
@@ -21,7 +22,8 @@ use Rattle.asdu.specs.declared.command.Entry.the-variants.{ProcessCommands}
 use Rattle.asdu.specs.declared.command.Reading.{Reading}
 use Rattle.asdu.specs.declared.command.Reading.the-variants.{LengthOutOfRange, TypeNotServed, ObjectsNotWhole, Parsed}
 use Rattle.asdu.specs.Command.{readAs, outcomeOf, isProcess}
-use Rattle.asdu.specs.Confirmation.{reply}
+use Rattle.asdu.specs.Header.{Asdu}
+use Rattle.asdu.specs.Confirmation.{reply, objectsOf}
 use Rattle.report.specs.Order.{pointsOf}
 use Rattle.report.specs.Single.{spontaneousAsdu}
 use Rattle.answers.specs.Said.{Said, unsaid}
@@ -40,13 +42,35 @@ pub record Proposal : Type 0 where
   pub objects : List ℕ
   pub updates : List Update
 
--- The updates of a flat list: 18 octets each, CA 2, IOA 3, type 1, value 12; octets after the last whole one are ignored.
+-- ---- the flat form of an update: CA 2, IOA 3, type 1, value 12
+
+abbrev pub updateIoaOffset : ℕ
+updateIoaOffset = 2
+
+abbrev pub updateTypeOffset : ℕ
+updateTypeOffset = 5
+
+abbrev pub updateValueOffset : ℕ
+updateValueOffset = 6
+
+abbrev pub updateOctets : ℕ
+updateOctets = 18
+
+-- The update whose octets begin at `at`.
+abbrev pub updateAt : List ℕ → ℕ → Update
+updateAt m at =
+    record { ca = two m at; ioa = three m (at + updateIoaOffset); kind = getD m (at + updateTypeOffset) 0; value = twelve m (at + updateValueOffset) }
+
+-- n updates, one after another.
 unfoldable pub updatesAt : List ℕ → ℕ → ℕ → List Update
 updatesAt m at zero = []
-updatesAt m at (suc n) = record { ca = two m at; ioa = three m (at + 2); kind = getD m (at + 5) 0; value = twelve m (at + 6) } ∷ updatesAt m (at + 18) n
+updatesAt m at (suc n) = updateAt m at ∷ updatesAt m (at + updateOctets) n
 
+-- The updates of a flat list; octets after the last whole one are ignored.
 abbrev pub updatesIn : List ℕ → List Update
-updatesIn m = updatesAt m 0 (length m / 18)
+updatesIn m = updatesAt m 0 (length m / updateOctets)
+
+-- ---- the tests of a proposal and of a cause
 
 -- A proposal is good under the length limit L if its type is a process type and its reply octets are at most L − 10 and whole objects; else it is bad (6).
 unfoldable pub proposalOk : ℕ → ℕ → List ℕ → Bool
@@ -64,7 +88,7 @@ unfoldable pub updated : Update → Option Point → Option Point
 updated u none = none
 updated u (some p) =
     pick (eqb (p .kind) (u .kind))
-    (some (record { kind = p .kind; ioa = p .ioa; group = p .group; counter = p .counter; value = element (pointOctets (p .kind)) (u .value) }))
+    (some (withValue (element (pointOctets (p .kind)) (u .value)) p))
     none
 
 -- A point in place of the one with its IOA.
@@ -76,9 +100,9 @@ unfoldable pub tableWith : Table → Update → Option Point → Table
 tableWith t u none = t
 tableWith t u (some p) = changed t (u .ca) (replaceIn p)
 
-unfoldable pub toldOf : Update → Option Point → List ℕ
+unfoldable pub toldOf : Update → Option Point → List Asdu
 toldOf u none = []
-toldOf u (some p) = spontaneousAsdu (u .ca) p
+toldOf u (some p) = spontaneousAsdu (u .ca) p ∷ []
 
 -- The new value of a point by an update of a table.
 abbrev pub updateOf : Table → Update → Option Point
@@ -89,7 +113,7 @@ unfoldable pub tableAfter : Table → List Update → Table
 tableAfter t [] = t
 tableAfter t (u ∷ us) = tableAfter (tableWith t u (updateOf t u)) us
 
-unfoldable pub toldBy : Table → List Update → List ℕ
+unfoldable pub toldBy : Table → List Update → List Asdu
 toldBy t [] = []
 toldBy t (u ∷ us) = toldOf u (updateOf t u) ++ toldBy (tableWith t u (updateOf t u)) us
 
@@ -104,21 +128,20 @@ abbrev pub confirmationCause : ℕ → ℕ
 confirmationCause cause = pick (eqb cause deactivation) deactivationConfirmation activationConfirmation
 
 -- The confirmation: the reply's type and objects; originator, CA and test of the command; negative as proposed.
-abbrev pub processReply : Command → Proposal → List ℕ
-processReply c p =
-    reply c (p .kind) (length (p .objects) / (addressOctets + elementOctets (p .kind))) (confirmationCause (c .cause)) (p .negative) (p .objects)
+abbrev pub processReply : Command → Proposal → Asdu
+processReply c p = reply c (p .kind) (confirmationCause (c .cause)) (p .negative) (objectsOf (elementOctets (p .kind)) (p .objects))
 
-unfoldable pub processFrom : Proposal → Reading → Table → Said
-processFrom p LengthOutOfRange t = unsaid (outcomeOf LengthOutOfRange) t []
-processFrom p TypeNotServed t = unsaid (outcomeOf TypeNotServed) t []
-processFrom p ObjectsNotWhole t = unsaid (outcomeOf ObjectsNotWhole) t []
-processFrom p (Parsed c) t =
+unfoldable pub processFrom : List ℕ → Proposal → Reading → Table → Said
+processFrom clock p LengthOutOfRange t = unsaid (outcomeOf LengthOutOfRange) t clock
+processFrom clock p TypeNotServed t = unsaid (outcomeOf TypeNotServed) t clock
+processFrom clock p ObjectsNotWhole t = unsaid (outcomeOf ObjectsNotWhole) t clock
+processFrom clock p (Parsed c) t =
     pick (processCauseTaken (c .cause))
     (pick (proposalOk (limitOf t) (p .kind) (p .objects))
-    (record { outcome = Done; answer = processReply c p; told = toldBy t (readUpdates p); after = tableAfter t (readUpdates p); clock = [] })
-    (unsaid BadProposal t []))
-    (unsaid Silent t [])
+    (record { outcome = Done; answer = processReply c p ∷ []; told = toldBy t (readUpdates p); after = tableAfter t (readUpdates p); clock = clock })
+    (unsaid BadProposal t clock))
+    (unsaid Silent t clock)
 
--- What a process command says to a table.
-abbrev pub processSaid : Proposal → List ℕ → Table → Said
-processSaid p m t = processFrom p (readAs (limitOf t) ProcessCommands m) t
+-- What a process command says to a table; the clock stays.
+abbrev pub processSaid : List ℕ → Proposal → List ℕ → Table → Said
+processSaid clock p m t = processFrom clock p (readAs (limitOf t) ProcessCommands m) t

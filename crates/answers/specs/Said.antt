@@ -11,16 +11,17 @@ use Rattle.limits.specs.Test.{pick}
 use Rattle.limits.specs.Outcome.{isDone}
 use Rattle.limits.specs.declared.outcome.Outcome.{Outcome}
 use Rattle.limits.specs.declared.outcome.Outcome.the-variants.{Done, TableNotWellFormed, AnswerShort, SpontaneousShort}
+use Rattle.asdu.specs.Header.{Asdu, wire}
 use Rattle.table.specs.Table.{Table}
 use Rattle.table.specs.Memory.{parse, tableOf}
 use Rattle.registry.specs.Effect.{holding, firstFault}
 use Rattle.answers.specs.declared.Answered.{Answered}
 
--- What a command says: its outcome; the octets of its answer and of its spontaneous ASDUs; the table and the clock after it. All but the outcome count only with Done.
+-- What a command says: its outcome; the ASDUs of its answer and those told spontaneously; the table and the clock after it. All but the outcome count only with Done.
 pub record Said : Type 0 where
   pub outcome : Outcome
-  pub answer : List ℕ
-  pub told : List ℕ
+  pub answer : List Asdu
+  pub told : List Asdu
   pub after : Table
   pub clock : List ℕ
 
@@ -29,7 +30,7 @@ abbrev pub unsaid : Outcome → Table → List ℕ → Said
 unsaid o t clock = record { outcome = o; answer = []; told = []; after = t; clock = clock }
 
 -- An answer that changes nothing.
-abbrev pub says : List ℕ → Table → List ℕ → Said
+abbrev pub says : List Asdu → Table → List ℕ → Said
 says answer t clock = record { outcome = Done; answer = answer; told = []; after = t; clock = clock }
 
 -- The memories that are lent to a call; one that is not lent is empty.
@@ -42,13 +43,19 @@ pub record Lent : Type 0 where
 abbrev pub lent : List ℕ → List ℕ → List ℕ → List ℕ → Lent
 lent table clock answer spontaneous = record { table = table; clock = clock; answer = answer; spontaneous = spontaneous }
 
--- A memory with octets at its front.
-abbrev pub fronted : List ℕ → List ℕ → List ℕ
-fronted octets memory = octets ++ drop (length octets) memory
+-- ---- the one last step: ASDUs become octets
 
--- Do the octets fit?
-abbrev pub fits : List ℕ → List ℕ → Bool
-fits octets memory = leb (length octets) (length memory)
+-- How many octets the ASDUs have on the wire.
+abbrev pub size : List Asdu → ℕ
+size asdus = length (wire asdus)
+
+-- A memory with ASDUs at its front.
+abbrev pub fronted : List Asdu → List ℕ → List ℕ
+fronted asdus memory = wire asdus ++ drop (size asdus) memory
+
+-- Do they fit?
+abbrev pub fits : List Asdu → List ℕ → Bool
+fits asdus memory = leb (size asdus) (length memory)
 
 -- The outcome with the memories' lengths known: 5, then 4.
 unfoldable pub outcomeWith : Said → Lent → Outcome
@@ -61,8 +68,8 @@ answeredFrom f l none = record { outcome = TableNotWellFormed; octets = 0; spont
 answeredFrom f l (some t) =
     record {
       outcome = outcomeWith (f t) l;
-      octets = pick (isDone (outcomeWith (f t) l)) (length (f t .answer)) 0;
-      spontaneous = pick (isDone (outcomeWith (f t) l)) (length (f t .told)) 0;
+      octets = pick (isDone (outcomeWith (f t) l)) (size (f t .answer)) 0;
+      spontaneous = pick (isDone (outcomeWith (f t) l)) (size (f t .told)) 0;
     }
 
 unfoldable pub lentFrom : (Table → Said) → Lent → Option Table → Lent
@@ -105,17 +112,17 @@ abbrev pub given : ℕ → Answered
 given n = record { outcome = Done; octets = n; spontaneous = 0 }
 
 -- What comes back.
-unfoldable pub sent : List ℕ → List ℕ → Answered
-sent octets memory = pick (fits octets memory) (given (length octets)) (nothing AnswerShort)
+unfoldable pub sent : List Asdu → List ℕ → Answered
+sent asdus memory = pick (fits asdus memory) (given (size asdus)) (nothing AnswerShort)
 
 -- What the answer memory holds.
-unfoldable pub left : List ℕ → List ℕ → List ℕ
-left octets memory = pick (fits octets memory) (fronted octets memory) memory
+unfoldable pub left : List Asdu → List ℕ → List ℕ
+left asdus memory = pick (fits asdus memory) (fronted asdus memory) memory
 
 -- Both together.
-pub record Sends (octets : List ℕ) (before : List ℕ) (r : Answered) (after : List ℕ) : Type 0 where
-  pub answers : r ≡ sent octets before
-  pub leaves : after ≡ left octets before
+pub record Sends (asdus : List Asdu) (before : List ℕ) (r : Answered) (after : List ℕ) : Type 0 where
+  pub answers : r ≡ sent asdus before
+  pub leaves : after ≡ left asdus before
 
 -- ---- a table's memory that is changed in place
 

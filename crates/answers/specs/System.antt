@@ -12,12 +12,12 @@ use Rattle.limits.specs.declared.outcome.Outcome.{Outcome}
 use Rattle.limits.specs.declared.outcome.Outcome.the-variants.{Done, Silent}
 use Rattle.octets.specs.Number.{three}
 use Rattle.model.specs.declared.Point.{Point}
-use Rattle.model.specs.Place.{isCounter}
+use Rattle.model.specs.Place.{isCounter, withValue}
 use Rattle.table.specs.Table.{Station, Table}
 use Rattle.table.specs.Settings.{limitOf}
-use Rattle.table.specs.Change.{stationOf, withPoints, changed, pointIn}
+use Rattle.table.specs.Change.{stationOf, withPoints, withStations, changed, pointIn}
 use Rattle.asdu.specs.Cause.{request, activation, activationConfirmation, activationTermination, interrogation, counterInterrogation}
-use Rattle.asdu.specs.Header.{globalAddress}
+use Rattle.asdu.specs.Header.{Asdu, globalAddress}
 use Rattle.asdu.specs.declared.command.Command.{Command}
 use Rattle.asdu.specs.declared.command.Entry.the-variants.{SystemCommands}
 use Rattle.asdu.specs.declared.command.Reading.{Reading}
@@ -65,25 +65,29 @@ isSilent c m = eqb (c .count) 0 || (not (causeTaken (c .kind) (c .cause)) || (eq
 -- ---- confirmation, data, termination
 
 -- A positive confirmation, cause 7, with the first object alone.
-abbrev pub confirmed : Command → List ℕ → List ℕ
+abbrev pub confirmed : Command → List ℕ → Asdu
 confirmed c m = confirmation c m activationConfirmation false
 
 -- A negative confirmation, cause 7, with the first object alone.
-abbrev pub denied : Command → List ℕ → List ℕ
+abbrev pub denied : Command → List ℕ → Asdu
 denied c m = confirmation c m activationConfirmation true
 
+-- A confirmation, cause 7, that echoes all objects.
+abbrev pub echoed : Command → List ℕ → Bool → Asdu
+echoed c m negative = echo c m activationConfirmation negative
+
 -- A termination, cause 10, with the first object alone.
-abbrev pub terminated : Command → List ℕ → List ℕ
+abbrev pub terminated : Command → List ℕ → Asdu
 terminated c m = confirmation c m activationTermination false
 
 -- The report of the selected points between confirmation and termination: data keep the command's CA.
-unfoldable pub reported : Table → Command → List ℕ → List ℕ → ℕ → Selection → List ℕ
+unfoldable pub reported : Table → Command → List ℕ → List ℕ → ℕ → Selection → List Asdu
 reported t c m types cause sel =
-    confirmed c m ++ (report (limitOf t) types cause (c .ca) (selected (selects sel) (pointsFor (c .ca) (t .stations))) ++ terminated c m)
+    confirmed c m ∷ (report (limitOf t) types cause (c .ca) (selected (selects sel) (pointsFor (c .ca) (t .stations))) ++ (terminated c m ∷ []))
 
 -- What a choice is answered by: its report, or one negative confirmation.
-unfoldable pub answerTo : Table → Command → List ℕ → List ℕ → ℕ → Choice → List ℕ
-answerTo t c m types cause Denied = denied c m
+unfoldable pub answerTo : Table → Command → List ℕ → List ℕ → ℕ → Choice → List Asdu
+answerTo t c m types cause Denied = denied c m ∷ []
 answerTo t c m types cause (Selected sel) = reported t c m types cause sel
 
 -- ---- interrogation
@@ -93,7 +97,7 @@ abbrev pub interrogated : ℕ → Choice
 interrogated q = pick (eqb q interrogation) (Selected Every) (pick (leb 21 q & leb q 36) (Selected (Group (q - interrogation))) Denied)
 
 -- Data have the qualifier as cause.
-unfoldable pub interrogationAnswer : Command → List ℕ → Table → List ℕ
+unfoldable pub interrogationAnswer : Command → List ℕ → Table → List Asdu
 interrogationAnswer c m t = answerTo t c m (interrogationTypesOf t) (qualifierOf m) (interrogated (qualifierOf m))
 
 -- ---- counters
@@ -114,12 +118,16 @@ resets q = leb 2 (q / 64)
 abbrev pub counterCause : ℕ → ℕ
 counterCause q = pick (eqb (choiceOf q) 5) counterInterrogation (counterInterrogation + choiceOf q)
 
-unfoldable pub counterAnswer : Command → List ℕ → Table → List ℕ
+unfoldable pub counterAnswer : Command → List ℕ → Table → List Asdu
 counterAnswer c m t = answerTo t c m counterTypes (counterCause (qualifierOf m)) (chosen (qualifierOf m))
+
+-- The octets of a counter's reading.
+abbrev pub readingOctets : ℕ
+readingOctets = 4
 
 -- A counter's reading, its first four octets, set to 0; the rest stays.
 abbrev pub zeroed : Point → Point
-zeroed p = record { kind = p .kind; ioa = p .ioa; group = p .group; counter = p .counter; value = replicate 4 0 ++ drop 4 (p .value) }
+zeroed p = withValue (replicate readingOctets 0 ++ drop readingOctets (p .value)) p
 
 -- The points with the selected counters set to 0.
 unfoldable pub resetIn : Selection → List Point → List Point
@@ -128,7 +136,7 @@ resetIn sel ps = map (λ p. pick (isCounter (p .kind) & selects sel p) (zeroed p
 -- The counters of a station, or under CA 65,535 of every station, reset.
 unfoldable pub resetAt : Table → ℕ → Selection → Table
 resetAt t ca sel =
-    pick (eqb ca globalAddress) (record { capacity = t .capacity; stations = map (withPoints (resetIn sel)) (t .stations) }) (changed t ca (resetIn sel))
+    pick (eqb ca globalAddress) (withStations (map (withPoints (resetIn sel)) (t .stations)) t) (changed t ca (resetIn sel))
 
 -- A choice that is denied resets nothing.
 unfoldable pub resetBy : Table → ℕ → Choice → Table
@@ -161,9 +169,9 @@ abbrev pub pointsRead : Command → List ℕ → Table → Option (List Point)
 pointsRead c m t = pointsAsked (addressesIn m headerOctets (c .count)) (pointsOf (stationOf (c .ca) (t .stations)))
 
 -- The echo of all objects, negative where an address is missing; else one ASDU for each object, cause 5.
-unfoldable pub readAnswer : Command → List ℕ → Option (List Point) → List ℕ
-readAnswer c m none = echo c m activationConfirmation true
-readAnswer c m (some ps) = echo c m activationConfirmation false ++ joined (requestedAsdu (c .ca)) ps
+unfoldable pub readAnswer : Command → List ℕ → Option (List Point) → List Asdu
+readAnswer c m none = echoed c m true ∷ []
+readAnswer c m (some ps) = echoed c m false ∷ map (requestedAsdu (c .ca)) ps
 
 -- ---- clock
 
@@ -180,7 +188,7 @@ commandSaid clock m c t =
     (pick (eqb (c .kind) countersType)
     (record { outcome = Done; answer = counterAnswer c m t; told = []; after = afterCounters t (c .ca) (qualifierOf m); clock = clock })
     (pick (eqb (c .kind) readType) (says (readAnswer c m (pointsRead c m t)) t clock)
-    (pick (eqb (c .kind) clockType) (says (echo c m activationConfirmation false) t (clockFrom m)) (says (echo c m activationConfirmation false) t clock))))
+    (says (echoed c m false ∷ []) t (pick (eqb (c .kind) clockType) (clockFrom m) clock))))
 
 -- The order of the tests: malformed or not served; silent; then the command's own answer.
 unfoldable pub systemFrom : List ℕ → List ℕ → Reading → Table → Said

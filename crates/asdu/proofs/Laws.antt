@@ -1,6 +1,6 @@
 -- The octets of an ASDU: how many they are, and that what was written is read back. Assumes nothing.
 use mathlib.Core.Path.{_≡_, refl, sym, ap, _∙_}
-use mathlib.Core.List.{List, _∷_, _++_}
+use mathlib.Core.List.{List, [], _∷_, _++_}
 use mathlib.Core.Bool.{Bool, true, false}
 use Prim.Native.Nat.{ℕ, suc, _+_, _*_, _-_, _/_, _%_, _≤_, _<_}
 use native.Mathlib.Omega.{arith}
@@ -10,7 +10,9 @@ use lib.Seq.{take-all, drop-cons}
 use borrow.Author.Tests.{lt-leb, le-leb, leb-true, leb-false}
 use Rattle.octets.specs.Number.{Octets, three}
 use Rattle.asdu.specs.declared.header.Header.{Header}
-use Rattle.asdu.specs.Header.{header, object, asdu, causeOctet, headerIn, sequenceIn}
+use Rattle.asdu.specs.Joined.{joined}
+use Rattle.asdu.specs.Header.{Object, Asdu, header, objectOctets, asduOctets, wire, causeOctet, headerIn, sequenceIn}
+use Rattle.asdu.proofs.Joined.{joined-one, joined-append}
 
 -- ---- lengths
 
@@ -18,13 +20,32 @@ pub length-header : (h : Header) → length (header h) ≡ 6
 unfolding header
 length-header h = refl
 
-pub length-object : (ioa : ℕ) (element : List ℕ) → length (object ioa element) ≡ 3 + length element
-unfolding object
-length-object ioa element = omega arith
+pub length-object : (x : Object) → length (objectOctets x) ≡ 3 + length (x .element)
+unfolding objectOctets
+length-object x = omega arith
 
-pub length-asdu : (h : Header) (objects : List ℕ) → length (asdu h objects) ≡ 6 + length objects
-unfolding asdu header
-length-asdu h objects = omega arith
+-- a header and octets after it
+pub length-after : (h : Header) (objects : List ℕ) → length (header h ++ objects) ≡ 6 + length objects
+unfolding header
+length-after h objects = omega arith
+
+pub length-asdu : (a : Asdu) → length (asduOctets a) ≡ 6 + length (joined objectOctets (a .objects))
+unfolding asduOctets
+length-asdu a = length-after (a .header) (joined objectOctets (a .objects))
+
+-- ---- ASDUs one after another
+
+pub wire-none : wire [] ≡ []
+unfolding wire joined
+wire-none = refl
+
+pub wire-one : (a : Asdu) → wire (a ∷ []) ≡ asduOctets a
+unfolding wire
+wire-one a = joined-one asduOctets a
+
+pub wire-append : (xs ys : List Asdu) → wire (xs ++ ys) ≡ wire xs ++ wire ys
+unfolding wire
+wire-append xs ys = joined-append asduOctets xs ys
 
 -- all that lies from `from` on, as a part that is lent has it
 pub lent-rest : (m : List ℕ) (from : ℕ) → take (length m - from) (drop from m) ≡ drop from m
@@ -79,9 +100,9 @@ unfolding header
 sequence-clear h rest few = lt-leb _ _ few
 
 -- the address of an object
-pub object-back : (ioa : ℕ) (element rest : List ℕ) → ioa < 16777216 → three (object ioa element ++ rest) 0 ≡ ioa
-unfolding object
-object-back ioa element rest h = omega arith
+pub object-back : (x : Object) (rest : List ℕ) → x .ioa < 16777216 → three (objectOctets x ++ rest) 0 ≡ x .ioa
+unfolding objectOctets
+object-back x rest h = omega arith
 
 -- ---- what was read is written again
 

@@ -1,6 +1,6 @@
 -- What a reading tells: a command that was parsed is the one in the octets, which hold exactly its objects. Assumes nothing.
 use mathlib.Core.Path.{_≡_, refl, sym, ap, _∙_, subst}
-use mathlib.Core.List.{List}
+use mathlib.Core.List.{List, _++_}
 use mathlib.Core.Bool.{Bool, true, false, not}
 use Prim.Native.Nat.{ℕ, _+_, _*_, _/_, _%_, _≤_, _<_}
 use native.Mathlib.Nat.{add-mul, mul-le-mul-right}
@@ -18,9 +18,9 @@ use Rattle.asdu.specs.declared.command.Entry.{Entry}
 use Rattle.asdu.specs.declared.command.Command.{Command}
 use Rattle.asdu.specs.declared.command.Reading.the-variants.{LengthOutOfRange, TypeNotServed, ObjectsNotWhole, Parsed}
 use Rattle.asdu.specs.declared.command.FirstObject.the-variants.{Object, None}
-use Rattle.asdu.specs.Header.{header, asdu, mostOctets, kindIn, sequenceIn}
+use Rattle.asdu.specs.Header.{header, mostOctets, kindIn, sequenceIn}
 use Rattle.asdu.specs.Command.{serves, lengthOk, objectAt, wholeObjects, commandIn, readAs, firstObject}
-use Rattle.asdu.proofs.Laws.{length-asdu, cause-back, sequence-clear}
+use Rattle.asdu.proofs.Laws.{length-after, cause-back, sequence-clear}
 
 -- a length that passed has room for the header
 pub header-there : (limit n : ℕ) → lengthOk limit n ≡ true → 6 ≤ n
@@ -121,16 +121,16 @@ commandOf h =
 
 pub read-written : (limit : ℕ) (entry : Entry) (h : Header) (objects : List ℕ) → h .count < 128 → h .cause < 64
     → 6 + length objects ≤ mostOctets limit → serves entry (classOf (h .kind)) ≡ true → 6 + length objects ≡ objectAt (elementOctets (h .kind)) (h .count)
-    → readAs limit entry (asdu h objects) ≡ Parsed (commandOf h)
-unfolding readAs asdu header
+    → readAs limit entry (header h ++ objects) ≡ Parsed (commandOf h)
+unfolding readAs header
 read-written limit entry h objects few low fits served whole =
     let n : h .count % 128 ≡ h .count = omega arith in
     let b = cause-back (h .cause) (h .negative) (h .test) low in
     let a : h .ca % 256 + 256 * (h .ca / 256) ≡ h .ca = omega arith in
-    let k : length (asdu h objects) ≡ 6 + length objects = length-asdu h objects in
-    let L : lengthOk limit (length (asdu h objects)) ≡ true = join (le-leb 6 (length (asdu h objects)) (omega arith)) (le-leb (length (asdu h objects)) (mostOctets limit) (omega arith)) in
-    let W : wholeObjects (asdu h objects) ≡ true =
+    let k : length (header h ++ objects) ≡ 6 + length objects = length-after h objects in
+    let L : lengthOk limit (length (header h ++ objects)) ≡ true = join (le-leb 6 (length (header h ++ objects)) (omega arith)) (le-leb (length (header h ++ objects)) (mostOctets limit) (omega arith)) in
+    let W : wholeObjects (header h ++ objects) ≡ true =
     join (ap not (sequence-clear h objects few))
-    (eq-eqb (length (asdu h objects)) (objectAt (elementOctets (h .kind)) (h .count % 128)) (k ∙ whole ∙ sym (ap (objectAt (elementOctets (h .kind))) n))) in
+    (eq-eqb (length (header h ++ objects)) (objectAt (elementOctets (h .kind)) (h .count % 128)) (k ∙ whole ∙ sym (ap (objectAt (elementOctets (h .kind))) n))) in
     simp (L, served, W)
     (λ j. Parsed record { kind = h .kind; count = n j; cause = b .is-cause j; test = b .is-test j; originator = h .originator; ca = a j; element = elementOctets (h .kind) })

@@ -48,6 +48,10 @@ lengthOk limit n = leb headerOctets n & leb n (mostOctets limit)
 abbrev pub objectAt : ℕ → ℕ → ℕ
 objectAt element i = headerOctets + i * (addressOctets + element)
 
+-- Where the element of the first object lies: after header and address.
+abbrev pub firstElement : ℕ
+firstElement = headerOctets + addressOctets
+
 -- The sequence flag is clear and the length is 6 + count × (3 + element).
 abbrev pub wholeObjects : List ℕ → Bool
 wholeObjects m = not (sequenceIn m) & eqb (length m) (objectAt (elementOctets (kindIn m)) (countIn m))
@@ -83,4 +87,4 @@ outcomeOf (Parsed c) = Done
 
 -- The first object: its address and where its element lies; none where the count is 0.
 abbrev pub firstObject : Command → List ℕ → FirstObject
-firstObject c m = pick (eqb (c .count) 0) None (Object (three m headerOctets) (headerOctets + addressOctets))
+firstObject c m = pick (eqb (c .count) 0) None (Object (three m headerOctets) firstElement)

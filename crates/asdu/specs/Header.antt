@@ -1,4 +1,4 @@
--- The octets of an ASDU: its header, its objects, and how a header's fields are read back.
+-- An ASDU: its header and its objects; the octets of ASDUs, and how a header's fields are read back.
 -- Document 01, 'Octets of an ASDU'; IEC 60870-5-101, 7.2.1 to 7.2.5; IEC 60870-5-104, 5.
 use Prim.Native.Nat.{ℕ, _+_, _-_, _%_}
 use mathlib.Core.List.{List, _∷_, _++_}
@@ -9,6 +9,17 @@ use Rattle.limits.specs.Test.{pick}
 use Rattle.limits.specs.Size.{controlOctets}
 use Rattle.octets.specs.Number.{two, pair, triple}
 use Rattle.asdu.specs.declared.header.Header.{Header}
+use Rattle.asdu.specs.Joined.{joined}
+
+-- An object: its address, and the octets of its element.
+pub record Object : Type 0 where
+  pub ioa : ℕ
+  pub element : List ℕ
+
+-- An ASDU: its header and its objects.
+pub record Asdu : Type 0 where
+  pub header : Header
+  pub objects : List Object
 
 -- The most octets of an ASDU under the length limit L of an APDU: L less four control octets, 249 of 253.
 abbrev pub mostOctets : ℕ → ℕ
@@ -27,12 +38,16 @@ unfoldable pub header : Header → List ℕ
 header h = h .kind ∷ h .count ∷ causeOctet (h .cause) (h .negative) (h .test) ∷ h .originator ∷ pair (h .ca)
 
 -- An object: its address, three octets, low first (7.2.5), and its element.
-unfoldable pub object : ℕ → List ℕ → List ℕ
-object ioa element = triple ioa ++ element
+unfoldable pub objectOctets : Object → List ℕ
+objectOctets x = triple (x .ioa) ++ x .element
 
--- An ASDU: its header and the octets of its objects, one after another.
-unfoldable pub asdu : Header → List ℕ → List ℕ
-asdu h objects = header h ++ objects
+-- An ASDU: its header and its objects, one after another.
+unfoldable pub asduOctets : Asdu → List ℕ
+asduOctets a = header (a .header) ++ joined objectOctets (a .objects)
+
+-- ASDUs lie one after another with nothing between.
+unfoldable pub wire : List Asdu → List ℕ
+wire xs = joined asduOctets xs
 
 -- ---- read back
 

@@ -1,5 +1,4 @@
 // A command as it is read from its octets, and its first object.
-use limits::outcome::Outcome;
 use limits::size::ADDRESS_OCTETS;
 use limits::size::CONTROL_OCTETS;
 use limits::size::Class;
@@ -7,8 +6,8 @@ use limits::size::HEADER_OCTETS;
 ghost use mathlib.Core.Path.{_≡_};
 ghost use Prim.Native.Nat.{_+_, _*_, _≤_};
 ghost use lib.ListN.{length};
-ghost use Rattle.limits.specs.Size.{classOf};
-ghost use Rattle.asdu.specs.Command.{isSystem, isProcess, serves, lengthOk, objectAt, wholeObjects, commandIn, readAs, outcomeOf, firstObject};
+ghost use Rattle.limits.specs.Size.{classOf, headerOctets};
+ghost use Rattle.asdu.specs.Command.{isSystem, isProcess, serves, lengthOk, objectAt, wholeObjects, commandIn, readAs, firstObject};
 
 // Which of the two entries asks.
 pub enum Entry {
@@ -33,20 +32,6 @@ pub enum Reading {
     TypeNotServed,
     ObjectsNotWhole,
     Parsed(Command),
-}
-
-impl Reading {
-    // What answers a reading that is no command.
-    pub fn outcome(self) -> Outcome
-        ensures { λ r. ⌜ r ≡ outcomeOf self ⌝ }
-    {
-        match self {
-            Reading::LengthOutOfRange => Outcome::Malformed,
-            Reading::TypeNotServed => Outcome::Silent,
-            Reading::ObjectsNotWhole => Outcome::Malformed,
-            Reading::Parsed(_) => Outcome::Done,
-        }
-    }
 }
 
 // A command's first object: its address and where its element lies; or none.
@@ -101,7 +86,7 @@ fn is_length(n: usize, limit: usize) -> bool
 
 // Is the sequence flag clear, and do the octets hold exactly as many objects as the count says?
 fn has_whole_objects(asdu: &[u8]) -> bool
-    requires { ⌜ 6 ≤ length (now asdu) ⌝ }
+    requires { ⌜ headerOctets ≤ length (now asdu) ⌝ }
     ensures { λ r. ⌜ r ≡ wholeObjects (now (asdu .entry)) ⌝ }
 {
     if 128 <= asdu[1] {
@@ -114,7 +99,7 @@ fn has_whole_objects(asdu: &[u8]) -> bool
 
 // The parts of a command; its own negative bit is not read.
 fn command_in(asdu: &[u8]) -> Command
-    requires { ⌜ 6 ≤ length (now asdu) ⌝ }
+    requires { ⌜ headerOctets ≤ length (now asdu) ⌝ }
     ensures { λ r. ⌜ r ≡ commandIn (now (asdu .entry)) ⌝ }
 {
     Command {

@@ -5,10 +5,14 @@ use crate::header::Header;
 use limits::size::ADDRESS_OCTETS;
 use limits::size::HEADER_OCTETS;
 ghost use mathlib.Core.Path.{_≡_};
+ghost use mathlib.Core.List.{_++_};
 ghost use Prim.Native.Nat.{_+_, _≤_, _<_};
 ghost use lib.ListN.{length};
-ghost use Rattle.octets.specs.Over.{over};
-ghost use Rattle.asdu.specs.Confirmation.{replyTo, confirmation, echo, reply};
+ghost use Rattle.limits.specs.Size.{headerOctets};
+ghost use Rattle.asdu.specs.Header.{header, asduOctets};
+ghost use Rattle.asdu.specs.Command.{firstElement, objectAt};
+ghost use Rattle.asdu.specs.Confirmation.{replyTo, confirmation, echo};
+ghost use Rattle.asdu.specs.Puts.{Puts};
 
 // The header of an answer: originator, CA and test are the command's, all else is given.
 pub fn reply_header(command: Command, kind: u8, count: u8, cause: u8, negative: bool) -> Header
@@ -25,7 +29,7 @@ pub fn reply_header(command: Command, kind: u8, count: u8, cause: u8, negative: 
     }
 }
 
-// Writes an answer with objects of its own at the front of `out`.
+// Writes an answer with objects of its own, given as octets, at the front of `out`.
 pub fn put_reply(
     out: &mut [u8],
     command: Command,
@@ -35,8 +39,8 @@ pub fn put_reply(
     negative: bool,
     objects: &[u8],
 ) -> usize
-    requires { ⌜ (cause < 64) × (length (reply command kind count cause negative (now objects)) ≤ length (now out)) ⌝ }
-    ensures { λ r. ⌜ (r ≡ length (reply command kind count cause negative (now (objects .entry)))) × (now (out .exit) ≡ over (now (out .entry)) 0 (reply command kind count cause negative (now (objects .entry)))) ⌝ }
+    requires { ⌜ (cause < 64) × (headerOctets + length (now objects) ≤ length (now out)) ⌝ }
+    ensures { λ r. ⌜ Puts (header (replyTo command kind count cause negative) ++ now (objects .entry)) (now (out .entry)) r (now (out .exit)) ⌝ }
 {
     let h = reply_header(command, kind, count, cause, negative);
     header::put_asdu(out, h, objects)
@@ -50,8 +54,8 @@ pub fn put_confirmation(
     cause: u8,
     negative: bool,
 ) -> usize
-    requires { ⌜ (cause < 64) × (9 + command .element ≤ length (now asdu)) × (length (confirmation command (now asdu) cause negative) ≤ length (now out)) ⌝ }
-    ensures { λ r. ⌜ (r ≡ length (confirmation command (now (asdu .entry)) cause negative)) × (now (out .exit) ≡ over (now (out .entry)) 0 (confirmation command (now (asdu .entry)) cause negative)) ⌝ }
+    requires { ⌜ (cause < 64) × (firstElement + command .element ≤ length (now asdu)) × (firstElement + command .element ≤ length (now out)) ⌝ }
+    ensures { λ r. ⌜ Puts (asduOctets (confirmation command (now (asdu .entry)) cause negative)) (now (out .entry)) r (now (out .exit)) ⌝ }
 {
     let start = HEADER_OCTETS;
     let end = start + (ADDRESS_OCTETS + command.element);
@@ -68,8 +72,8 @@ pub fn put_confirmation(
 
 // Writes a confirmation that echoes all objects at the front of `out`.
 pub fn put_echo(out: &mut [u8], command: Command, asdu: &[u8], cause: u8, negative: bool) -> usize
-    requires { ⌜ (cause < 64) × (6 ≤ length (now asdu)) × (length (echo command (now asdu) cause negative) ≤ length (now out)) ⌝ }
-    ensures { λ r. ⌜ (r ≡ length (echo command (now (asdu .entry)) cause negative)) × (now (out .exit) ≡ over (now (out .entry)) 0 (echo command (now (asdu .entry)) cause negative)) ⌝ }
+    requires { ⌜ (cause < 64) × (length (now asdu) ≡ objectAt (command .element) (command .count)) × (length (now asdu) ≤ length (now out)) ⌝ }
+    ensures { λ r. ⌜ Puts (asduOctets (echo command (now (asdu .entry)) cause negative)) (now (out .entry)) r (now (out .exit)) ⌝ }
 {
     let start = HEADER_OCTETS;
     put_reply(

@@ -2,33 +2,19 @@
 use mathlib.Core.Path.{_≡_, sym, ap, _∙_}
 use mathlib.Core.List.{List, []}
 use mathlib.Core.Bool.{true, false}
-use mathlib.Core.Option.{none, some}
 use Prim.Native.Nat.{ℕ}
 use Rattle.limits.specs.Test.{pick}
 use Rattle.limits.specs.Outcome.{isDone}
-use Rattle.limits.specs.declared.outcome.Outcome.the-variants.{Done, TableNotWellFormed}
+use Rattle.limits.specs.declared.outcome.Outcome.the-variants.{Done}
 use Rattle.limits.proofs.Outcomes.{done-is}
 use Rattle.model.specs.declared.Request.{Request}
-use Rattle.table.specs.Table.{Table}
-use Rattle.table.specs.Memory.{wellFormed, tableOf, parse}
-use Rattle.table.proofs.Parse.{parse-some, parse-none}
+use Rattle.table.specs.Memory.{wellFormed, tableOf}
 use Rattle.registry.specs.declared.Reply.{Reply}
-use Rattle.registry.specs.Effect.{Effect, holding, replyFrom, memoryFrom, replyOn, memoryOn}
+use Rattle.registry.specs.Effect.{Effect, holding, replyOn, memoryOn}
+use Rattle.replies.specs.Replies.{Replies}
+use Rattle.replies.proofs.Ways.{of-table}
 use Rattle.registry.specs.Registry.{ownTests, roomTests, registeringAll}
 use Rattle.batch_room.specs.Room.{roomReply}
-
--- No table: 3, and the memory as it was.
-pub no-table : (f : Table → Effect) (m : List ℕ) → wellFormed m ≡ false
-    → (record { outcome = TableNotWellFormed; place = 0 } ≡ replyOn f m) × (m ≡ memoryOn f m)
-unfolding replyFrom memoryFrom
-no-table f m w = let p : parse m ≡ none = parse-none m w in (ap (replyFrom f) (sym p), ap (memoryFrom f m) (sym p))
-
--- A table: its own reply, and its own memory.
-of-table : (f : Table → Effect) (m : List ℕ) → wellFormed m ≡ true
-    → (replyOn f m ≡ record { outcome = f (tableOf m) .outcome; place = f (tableOf m) .place })
-    × (memoryOn f m ≡ pick (isDone (f (tableOf m) .outcome)) (holding m (tableOf m) (f (tableOf m) .after)) m)
-unfolding replyFrom memoryFrom
-of-table f m w = let p : parse m ≡ some (tableOf m) = parse-some m w in (ap (replyFrom f) p, ap (memoryFrom f m) p)
 
 module _ (m : List ℕ) (w : wellFormed m ≡ true) (qs : List Request) where
   -- a point fails its own tests
@@ -43,7 +29,7 @@ module _ (m : List ℕ) (w : wellFormed m ≡ true) (qs : List Request) where
   passed-own d = simp d
 
   -- Refused by 11 to 17.
-  pub own-refusal : (x : Reply) → x ≡ ownTests (tableOf m) [] 0 qs → isDone (x .outcome) ≡ false → (x ≡ replyOn (registeringAll qs) m) × (m ≡ memoryOn (registeringAll qs) m)
+  pub own-refusal : (x : Reply) → x ≡ ownTests (tableOf m) [] 0 qs → isDone (x .outcome) ≡ false → Replies (registeringAll qs) m x m
   own-refusal x e d =
       let t = of-table (registeringAll qs) m w in
       let n : isDone (ownTests (tableOf m) [] 0 qs .outcome) ≡ false = ap (λ (y : Reply). isDone (y .outcome)) (sym e) ∙ d in
@@ -67,7 +53,7 @@ module _ (m : List ℕ) (w : wellFormed m ≡ true) (qs : List Request) where
         of-table (registeringAll qs) m w .1 ∙ ap (λ (f : Effect). pick (isDone (f .outcome)) (holding m (tableOf m) (f .after)) m) (passed-own p)
 
     -- Refused for room: 19, 20.
-    pub room-refusal : isDone (x .outcome) ≡ false → (x ≡ replyOn (registeringAll qs) m) × (m ≡ memoryOn (registeringAll qs) m)
+    pub room-refusal : isDone (x .outcome) ≡ false → Replies (registeringAll qs) m x m
     room-refusal d =
         let n : isDone (roomTests (tableOf m) 0 qs .outcome) ≡ false = ap isDone (sym room-outcome) ∙ d in
         (room-reply, sym (room-memory ∙ simp n))
@@ -78,13 +64,7 @@ module _ (m : List ℕ) (w : wellFormed m ≡ true) (qs : List Request) where
 
     -- Done: all are stored.
     pub stored-all : isDone (x .outcome) ≡ true → (later : List ℕ) → later ≡ holding m (tableOf m) (roomTests (tableOf m) 0 qs .after)
-        → (x ≡ replyOn (registeringAll qs) m) × (later ≡ memoryOn (registeringAll qs) m)
+        → Replies (registeringAll qs) m x later
     stored-all d later s =
         let n : isDone (roomTests (tableOf m) 0 qs .outcome) ≡ true = ap isDone (sym room-outcome) ∙ d in
         (room-reply, s ∙ sym (room-memory ∙ simp n))
-
--- The reply and the memory at exit are determined: two that meet the entry's contract are equal.
-pub one-answer : (m : List ℕ) (qs : List Request) (x y : Reply) (m′ m″ : List ℕ)
-    → (x ≡ replyOn (registeringAll qs) m) × (m′ ≡ memoryOn (registeringAll qs) m) → (y ≡ replyOn (registeringAll qs) m) × (m″ ≡ memoryOn (registeringAll qs) m)
-    → (x ≡ y) × (m′ ≡ m″)
-one-answer m qs x y m′ m″ a b = (a .0 ∙ sym (b .0), a .1 ∙ sym (b .1))

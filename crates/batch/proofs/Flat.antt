@@ -20,7 +20,7 @@ use Rattle.table.specs.Table.{Station, held, rising, allRising, placesOf, bodie
 use Rattle.table.specs.Change.{stationOf, inStation, withPoints, seekIn, insertIn}
 use Rattle.table.proofs.Points.{length-places}
 use Rattle.table.proofs.Shares.{planned}
-use Rattle.merging.specs.Merge.{Placed, putIn, octetsOf, Rises, addressAt, placedAt, placedFrom}
+use Rattle.merging.specs.Merge.{Placed, withPlace, placesOctets, Rises, addressAt, placedAt, placedFrom}
 use Rattle.merging.proofs.Joined.{Below, FirstFrom, put-none, put-first, put-later, put-past, put-before, octets-append}
 use Rattle.merging.proofs.Turns.{placed-append}
 
@@ -41,14 +41,14 @@ flat (s ∷ ss) = flatOf (s .ca) (s .points) ++ flat ss
 -- ---- their octets
 
 -- of one station
-octets-of-points : (ca : ℕ) (ps : List Point) → octetsOf (flatOf ca ps) ≡ placesOf ca ps
-unfolding flatOf octetsOf placesOf
+octets-of-points : (ca : ℕ) (ps : List Point) → placesOctets (flatOf ca ps) ≡ placesOf ca ps
+unfolding flatOf placesOctets placesOf
 octets-of-points ca [] = refl
 octets-of-points ca (p ∷ ps) = ap (λ (l : List ℕ). placeOf ca p ++ l) (octets-of-points ca ps)
 
 -- The octets of all are the table's places.
-pub flat-octets : (ss : List Station) → octetsOf (flat ss) ≡ bodies ss
-unfolding flat octetsOf bodies
+pub flat-octets : (ss : List Station) → placesOctets (flat ss) ≡ bodies ss
+unfolding flat placesOctets bodies
 flat-octets [] = refl
 flat-octets (s ∷ ss) =
     octets-append (flatOf (s .ca) (s .points)) (flat ss) ∙ ap₂ (λ (a b : List ℕ). a ++ b) (octets-of-points (s .ca) (s .points)) (flat-octets ss)
@@ -175,13 +175,13 @@ unfolding insertIn seekIn
 insert-none p = refl
 
 -- among the points of its station
-points-added : (ca : ℕ) (p : Point) (ps : List Point) → flatOf ca (insertIn p ps) ≡ putIn (placedPoint ca p) (flatOf ca ps)
+points-added : (ca : ℕ) (p : Point) (ps : List Point) → flatOf ca (insertIn p ps) ≡ withPlace (placedPoint ca p) (flatOf ca ps)
 unfolding flatOf
 points-added ca p [] = ap (flatOf ca) (insert-none p) ∙ sym (put-none (placedPoint ca p))
 points-added ca p (q ∷ qs) = by-test (points-added ca p qs) (leb (p .ioa) (q .ioa)) refl
   where
-    by-test : flatOf ca (insertIn p qs) ≡ putIn (placedPoint ca p) (flatOf ca qs) → (b : Bool) → leb (p .ioa) (q .ioa) ≡ b
-        → flatOf ca (insertIn p (q ∷ qs)) ≡ putIn (placedPoint ca p) (placedPoint ca q ∷ flatOf ca qs)
+    by-test : flatOf ca (insertIn p qs) ≡ withPlace (placedPoint ca p) (flatOf ca qs) → (b : Bool) → leb (p .ioa) (q .ioa) ≡ b
+        → flatOf ca (insertIn p (q ∷ qs)) ≡ withPlace (placedPoint ca p) (placedPoint ca q ∷ flatOf ca qs)
     by-test ih true t =
         let h : p .ioa ≤ q .ioa = leb-true _ _ t in
         ap (flatOf ca) (insert-first p q qs h) ∙ sym (put-first (placedPoint ca p) (placedPoint ca q) (flatOf ca qs) (omega arith))
@@ -206,7 +206,7 @@ found-from cap low ca (x ∷ ss) s p e =
 
 -- A point taken into its station is put in by its address.
 pub flat-added : (cap low ca : ℕ) (p : Point) (ss : List Station) (s : Station) → planned cap low ss ≡ true → allRising ss ≡ true → p .ioa ≤ 16777215
-    → stationOf ca ss ≡ some s → flat (inStation ca (withPoints (insertIn p)) ss) ≡ putIn (placedPoint ca p) (flat ss)
+    → stationOf ca ss ≡ some s → flat (inStation ca (withPoints (insertIn p)) ss) ≡ withPlace (placedPoint ca p) (flat ss)
 unfolding planned allRising stationOf inStation flat
 flat-added cap low ca p [] s pl ri i e = let z : _≡_ {A = ℕ} 0 1 = cc in absurd (omega arith)
 flat-added cap low ca p (x ∷ ss) s pl ri i e =
@@ -216,15 +216,15 @@ flat-added cap low ca p (x ∷ ss) s pl ri i e =
     by-test q (r1 .0) (λ f. found-from cap (x .ca + 1) ca ss s q f) (λ f. flat-added cap (x .ca + 1) ca p ss s q (r1 .1) i f) (eqb (x .ca) ca) refl e
   where
     by-test : planned cap (x .ca + 1) ss ≡ true → rising 0 (x .points) ≡ true → (stationOf ca ss ≡ some s → x .ca + 1 ≤ ca)
-        → (stationOf ca ss ≡ some s → flat (inStation ca (withPoints (insertIn p)) ss) ≡ putIn (placedPoint ca p) (flat ss))
+        → (stationOf ca ss ≡ some s → flat (inStation ca (withPoints (insertIn p)) ss) ≡ withPlace (placedPoint ca p) (flat ss))
         → (b : Bool) → eqb (x .ca) ca ≡ b → pick b (some x) (stationOf ca ss) ≡ some s
-        → flat (pick b (withPoints (insertIn p) x ∷ ss) (x ∷ inStation ca (withPoints (insertIn p)) ss)) ≡ putIn (placedPoint ca p) (flatOf (x .ca) (x .points) ++ flat ss)
+        → flat (pick b (withPoints (insertIn p) x ∷ ss) (x ∷ inStation ca (withPoints (insertIn p)) ss)) ≡ withPlace (placedPoint ca p) (flatOf (x .ca) (x .points) ++ flat ss)
     by-test q r from ih true t f =
         let g : x .ca ≡ ca = eqb-true _ _ t in
         let y : Placed = placedPoint (x .ca) p in
         ap (λ (l : List Placed). l ++ flat ss) (points-added (x .ca) p (x .points))
         ∙ sym (put-before y (flatOf (x .ca) (x .points)) (flat ss) (stations-from (16777216 * x .ca + p .ioa) cap (x .ca + 1) ss (omega arith) q))
-        ∙ ap (λ (c : ℕ). putIn (placedPoint c p) (flatOf (x .ca) (x .points) ++ flat ss)) g
+        ∙ ap (λ (c : ℕ). withPlace (placedPoint c p) (flatOf (x .ca) (x .points) ++ flat ss)) g
     by-test q r from ih false t f =
         let g : x .ca + 1 ≤ ca = from f in
         ap (λ (l : List Placed). flatOf (x .ca) (x .points) ++ l) (ih f)

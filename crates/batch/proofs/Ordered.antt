@@ -32,7 +32,7 @@ use Rattle.registry.proofs.Batches.AllApart.{apart-more}
 use Rattle.registry.proofs.Batches.Ready.{ready-more}
 use Rattle.batch_room.proofs.Laws.{room-first}
 use Rattle.sorting.specs.Sorted.{All}
-use Rattle.merging.specs.Merge.{Placed, putIn, joined, numberAt, numbersFrom, recordPlace, placedOf, Fits}
+use Rattle.merging.specs.Merge.{Placed, withPlace, withPlaces, numberAt, numbersFrom, recordPlace, placedOf, Fits}
 use Rattle.merging.proofs.Joined.{Other, join-push}
 use Rattle.merging.proofs.Joined as places
 use Rattle.batch.proofs.Flat.{placedPoint, flat, flat-added}
@@ -177,7 +177,7 @@ batch-numbers r t i at (suc n) g y e =
     (ih .0, ih .1 ∙ same-capacity t q, omega (arith, ih .2))
 
 -- a point taken into a good table, as its places
-one-more : (t : Table) (q : Request) → Good t → Accepted t q → flat (withRequest t q .stations) ≡ putIn (placedPoint (q .ca) (pointOf q)) (flat (t .stations))
+one-more : (t : Table) (q : Request) → Good t → Accepted t q → flat (withRequest t q .stations) ≡ withPlace (placedPoint (q .ca) (pointOf q)) (flat (t .stations))
 unfolding added changed pointOk
 one-more t q g a =
     let i : pointOf q .ioa ≤ 16777215 = leb-true _ _ (both _ _ (a .described) .0) in
@@ -186,8 +186,8 @@ one-more t q g a =
 -- The places of the table after an accepted batch are those before it with the batch's put in.
 pub batch-places : (r : List ℕ) (t : Table) (i at n : ℕ) → at ≡ 24 * i → i + n ≤ 4096 → Good t → Ready t (requestsAt r at n)
     → roomTests t i (requestsAt r at n) .outcome ≡ Done → places.Apart (placedOf r) (numbersFrom r i n)
-    → flat (roomTests t i (requestsAt r at n) .after .stations) ≡ joined (placedOf r) (flat (t .stations)) (numbersFrom r i n)
-unfolding requestsAt roomTests numbersFrom joined places.Apart
+    → flat (roomTests t i (requestsAt r at n) .after .stations) ≡ withPlaces (placedOf r) (flat (t .stations)) (numbersFrom r i n)
+unfolding requestsAt roomTests numbersFrom withPlaces places.Apart
 batch-places r t i at zero h few g y e a = refl
 batch-places r t i at (suc n) h few g y e a =
     let q : Request = requestAt r at in
@@ -196,5 +196,5 @@ batch-places r t i at (suc n) h few g y e a =
     let x : placedOf r (numberAt r i) ≡ placedPoint (two r at) (pointOf q) = number-placed r i at h (omega arith) in
     let ih = batch-places r (withRequest t q) (i + 1) (at + 24) n (omega arith) (omega arith) (f .good) (f .ready) (f .room) (a .1) in
     ap (λ (z : Effect). flat (z .after .stations)) (f .on) ∙ ih
-    ∙ ap (λ (l : List Placed). joined (placedOf r) l (numbersFrom r (i + 1) n)) (one-more t q g (f .accepted) ∙ ap (λ (z : Placed). putIn z (flat (t .stations))) (sym x))
+    ∙ ap (λ (l : List Placed). withPlaces (placedOf r) l (numbersFrom r (i + 1) n)) (one-more t q g (f .accepted) ∙ ap (λ (z : Placed). withPlace z (flat (t .stations))) (sym x))
     ∙ join-push (placedOf r) (placedOf r (numberAt r i)) (flat (t .stations)) (numbersFrom r (i + 1) n) (a .0)

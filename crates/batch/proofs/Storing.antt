@@ -1,4 +1,4 @@
--- Storing a batch that passed every test: its places merged among the table's, the stations' numbers raised and the number of points written make
+-- Storing a batch that passed every test: its places allMerged among the table's, the stations' numbers raised and the number of points written make
 -- of the table's image the image of the table that the share rule left. Assumes nothing.
 use mathlib.Core.Path.{_≡_, refl, sym, ap, ap₂, _∙_, subst}
 use mathlib.Core.List.{List, [], _++_, map, append-assoc}
@@ -7,26 +7,26 @@ use Prim.Native.Nat.{ℕ, _+_, _*_, _-_, _/_, _≤_}
 use native.Mathlib.Omega.{arith}
 use lib.ListN.{length, drop, replicate, length-append, length-replicate, replicate-append-replicate}
 use Rattle.limits.specs.Test.{total}
-use Rattle.limits.specs.declared.outcome.Outcome.the-variants.{Done}
 use Rattle.octets.specs.Over.{over}
 use Rattle.octets.specs.Number.{two, pair, Octets}
 use Rattle.octets.proofs.Laws.{over-at}
 use Rattle.table.specs.Table.{Station, Table, held, planOk, bodies, entries, head, image}
-use Rattle.table.specs.Memory.{wellFormed, tableOf}
+use Rattle.table.specs.Memory.{tableOf}
 use Rattle.table.proofs.Stations.{length-bodies}
 use Rattle.table.proofs.Shares.{plan-of}
 use Rattle.table.proofs.Parse.{Good, Laid, passed, printed, holds}
 use Rattle.table.proofs.Cut.{head-over}
 use Rattle.registry.specs.Effect.{holding}
-use Rattle.registry.specs.Registry.{ownTests, roomTests}
+use Rattle.registry.specs.Registry.{roomTests}
 use Rattle.registry.specs.History.{holdingOf}
 use Rattle.registry.proofs.Batches.{Ready, own-tests-ready}
-use Rattle.records.specs.Records.{requestsIn}
+use Rattle.records.specs.Records.{recordsIn, requestsIn}
+use Rattle.layout.specs.Layout.{mostPlaces, mostStations, pointsOffset, capacityIn, stationsIn, pointsIn, stationsFrom, sizeIn}
 use Rattle.sorting.specs.Sorted.{All, sorted}
-use Rattle.merging.specs.Merge.{Placed, joined, octetsOf, Rises, placedFrom, numbersFrom, placedOf, Fits}
+use Rattle.merging.specs.Merge.{merged, placesIn, Placed, withPlaces, placesOctets, Rises, placedFrom, numbersFrom, placedOf, Fits}
 use Rattle.merging.proofs.Joined.{join-sorted}
 use Rattle.batch_room.specs.Room.{holdingWith, TookIn}
-use Rattle.batch.specs.Raise.{raised, Raisable}
+use Rattle.batch.specs.Raise.{Accepted, raised, Raisable}
 use Rattle.batch.proofs.Flat.{flat, flat-octets, flat-read, flat-rises}
 use Rattle.batch.proofs.Ordered.{fits-all, apart-all, batch-numbers, batch-places}
 use Rattle.batch.proofs.Raised.{same-stations, raise-entries, raisable-entries}
@@ -101,26 +101,25 @@ module _ (k n c : ℕ) (ss ss′ : List Station) (rest : List ℕ) (count : tota
 
 -- ---- a memory that holds a table
 
--- The memory with the places of the records merged among its own.
-abbrev pub merged : List ℕ → List ℕ → List ℕ
-merged m r = over m 64 (octetsOf (joined (placedOf r) (placedFrom m 64 (two m 8)) (sorted (numbersFrom r 0 (length r / 24)))))
+-- The memory with the places of the records allMerged among its own.
+abbrev pub allMerged : List ℕ → List ℕ → List ℕ
+allMerged m r = merged m r (sorted (numbersFrom r 0 (recordsIn r))) (pointsIn m)
 
 -- What storing an accepted batch asks at each step, and the memory that it leaves.
 pub record Storable (m r taken : List ℕ) : Type 0 where
-  pub stations : two m 6 ≤ 64
-  pub length-is : 64 + 48 * two m 4 + 8 * two m 6 ≤ length m
-  pub capacity : two m 4 ≤ 4096
-  pub free : two m 8 + length r / 24 ≤ two m 4
-  pub rises : Rises 0 (placedFrom m 64 (two m 8))
-  pub records : All (Fits r) (numbersFrom r 0 (length r / 24))
-  pub raisable : Raisable (merged m r) taken 0 (64 + 48 * two m 4) (two m 6)
-  pub memory : over (raised (merged m r) taken 0 (64 + 48 * two m 4) (two m 6)) 8 (pair (two m 8 + length r / 24))
+  pub stations : stationsIn m ≤ mostStations
+  pub length-is : sizeIn m ≤ length m
+  pub capacity : capacityIn m ≤ mostPlaces
+  pub free : pointsIn m + recordsIn r ≤ capacityIn m
+  pub rises : Rises 0 (placesIn m (pointsIn m))
+  pub records : All (Fits r) (numbersFrom r 0 (recordsIn r))
+  pub raisable : Raisable (allMerged m r) taken 0 (stationsFrom m) (stationsIn m)
+  pub memory : over (raised (allMerged m r) taken 0 (stationsFrom m) (stationsIn m)) pointsOffset (pair (pointsIn m + recordsIn r))
       ≡ holding m (tableOf m) (roomTests (tableOf m) 0 (requestsIn r) .after)
 
 -- An accepted batch can be stored.
-pub storable : (m r taken : List ℕ) → Octets m → wellFormed m ≡ true → ownTests (tableOf m) [] 0 (requestsIn r) .outcome ≡ Done
-    → roomTests (tableOf m) 0 (requestsIn r) .outcome ≡ Done → TookIn (tableOf m) (requestsIn r) taken → Storable m r taken
-storable m r taken o w own room took =
+pub storable : (m r taken : List ℕ) → Octets m → Accepted m r → TookIn (tableOf m) (requestsIn r) taken → Storable m r taken
+storable m r taken o (w, own, room) took =
     let t : Table = tableOf m in
     let T : Table = roomTests t 0 (requestsIn r) .after in
     let c : ℕ = length r / 24 in
@@ -140,11 +139,11 @@ storable m r taken o w own room took =
     let apart = apart-all r t 0 0 c refl few ready in
     let rest : List ℕ = drop (length (image t)) m in
     let read : placedFrom m 64 (two m 8) ≡ flat (t .stations) = ap (placedFrom m 64) k8 ∙ flat-read m 64 (t .stations) (l .places) in
-    let places : octetsOf (joined (placedOf r) (placedFrom m 64 (two m 8)) (sorted (numbersFrom r 0 c))) ≡ bodies (T .stations) =
-    ap octetsOf (ap (λ (x : List Placed). joined (placedOf r) x (sorted (numbersFrom r 0 c))) read ∙ join-sorted (placedOf r) (flat (t .stations)) (numbersFrom r 0 c) apart
+    let places : placesOctets (withPlaces (placedOf r) (placedFrom m 64 (two m 8)) (sorted (numbersFrom r 0 c))) ≡ bodies (T .stations) =
+    ap placesOctets (ap (λ (x : List Placed). withPlaces (placedOf r) x (sorted (numbersFrom r 0 c))) read ∙ join-sorted (placedOf r) (flat (t .stations)) (numbersFrom r 0 c) apart
     ∙ sym (batch-places r t 0 0 c refl few g ready room apart)) ∙ flat-octets (T .stations) in
     let is-image : m ≡ image t ++ rest = printed m o (passed m w) in
-    let new : merged m r ≡ over (image t ++ rest) 64 (bodies (T .stations)) = ap₂ (λ (x y : List ℕ). over x 64 y) is-image places in
+    let new : allMerged m r ≡ over (image t ++ rest) 64 (bodies (T .stations)) = ap₂ (λ (x y : List ℕ). over x 64 y) is-image places in
     let lines = took room in
     let whole : 64 + 48 * two m 4 + 8 * two m 6 ≤ length m = passed m w .top .room in
     let room-records : 24 * (0 + c) ≤ length r = omega arith in
@@ -158,8 +157,8 @@ storable m r taken o w own room took =
       free = omega arith;
       rises = subst (Rises 0) (sym read) (flat-rises (t .capacity) (t .stations) (plan-of _ _ _ (g .plan) .0) (g .rises));
       records = fits-all r t 0 0 c refl few room-records ready;
-      raisable = subst (λ (x : ℕ). Raisable (merged m r) taken 0 (64 + 48 * two m 4) x) (sym k6)
-          (subst (λ (x : ℕ). Raisable (merged m r) taken 0 (64 + 48 * x) (length (t .stations))) (sym k4)
+      raisable = subst (λ (x : ℕ). Raisable (allMerged m r) taken 0 (64 + 48 * two m 4) x) (sym k6)
+          (subst (λ (x : ℕ). Raisable (allMerged m r) taken 0 (64 + 48 * x) (length (t .stations))) (sym k4)
           (subst (λ (x : List ℕ). Raisable x taken 0 (64 + 48 * t .capacity) (length (t .stations))) (sym new) raises));
       memory = (λ j. over (raised (new j) taken 0 (64 + 48 * k4 j) (k6 j)) 8 (pair (k8 j + c)))
           ∙ image-is

@@ -9,12 +9,13 @@ use Rattle.limits.specs.Share.{unmetOf, takenIn, admissionOf}
 use Rattle.limits.specs.Outcome.{isDone}
 use Rattle.limits.specs.declared.share.Share.{Share}
 use Rattle.limits.specs.declared.outcome.Outcome.the-variants.{Done, StationNotPlanned}
-use Rattle.octets.specs.Number.{two}
+use Rattle.layout.specs.Layout.{stationSize, stationsFrom}
 use Rattle.model.specs.declared.Request.{Request}
 use Rattle.seats.specs.declared.Seat.{Seat}
 use Rattle.seats.specs.declared.Seat.the-variants.{Here, NotPlanned}
 use Rattle.seats.specs.Seats.{seatAt}
 use Rattle.table.specs.Table.{Station, Table, held}
+use Rattle.wellformed.specs.Station.{shareAt}
 use Rattle.registry.specs.declared.Reply.{Reply}
 use Rattle.registry.specs.Registry.{admissionOutcome, roomTests}
 use Rattle.registry.specs.History.{Holding, holdingOf}
@@ -38,7 +39,7 @@ TookIn t qs taken = roomTests t 0 qs .outcome ≡ Done → map holdingOf (roomTe
 
 -- the share of the station whose octets lie from `at`, with `taken` points more than they say
 unfoldable pub shareWith : List ℕ → ℕ → ℕ → Share
-shareWith m at taken = record { held = two m (at + 6) + taken; reservation = two m (at + 2); ceiling = two m (at + 4) }
+shareWith m at taken = record { held = shareAt m at .held + taken; reservation = shareAt m at .reservation; ceiling = shareAt m at .ceiling }
 
 -- the rule's answer, and what is free and unmet with one point more
 unfoldable pub standingOf : Share → ℕ → ℕ → Standing
@@ -47,7 +48,7 @@ standingOf s free unmet =
 
 -- where the octets of the station of index i lie
 abbrev pub stationAt : List ℕ → ℕ → ℕ
-stationAt m i = 64 + 48 * two m 4 + 8 * i
+stationAt m i = stationsFrom m + stationSize * i
 
 -- the turn of a request whose station has a seat
 unfoldable pub standingAt : List ℕ → List ℕ → Seat → ℕ → ℕ → Standing
@@ -59,6 +60,11 @@ unfoldable pub takenAt : List ℕ → List ℕ → Seat → ℕ → ℕ → List
 takenAt m taken (Here i first h) free unmet =
     pick (isDone (standingOf (shareWith m (stationAt m i) (getD taken i 0)) free unmet .outcome)) (set taken i (getD taken i 0 + 1)) taken
 takenAt m taken NotPlanned free unmet = taken
+
+-- what the turn of a request of station `ca` gives back, and what the stations have then taken in
+abbrev pub Turned : List ℕ → List ℕ → ℕ → ℕ → ℕ → Standing → List ℕ → Type 0
+Turned m taken ca free unmet standing taken′ =
+    (standing ≡ standingAt m taken (seatAt m ca) free unmet) × (taken′ ≡ takenAt m taken (seatAt m ca) free unmet)
 
 -- the turns of the requests, the first of which has place i
 unfoldable pub roomRun : List ℕ → List ℕ → ℕ → ℕ → ℕ → List Request → Reply
@@ -77,3 +83,7 @@ takenRun m taken free unmet (q ∷ qs) =
     (takenRun m (takenAt m taken (seatAt m (q .ca)) free unmet) (standingAt m taken (seatAt m (q .ca)) free unmet .free)
     (standingAt m taken (seatAt m (q .ca)) free unmet .unmet) qs)
     (takenAt m taken (seatAt m (q .ca)) free unmet)
+
+-- what all turns give back, and what the stations have then taken in
+abbrev pub AllTurned : List ℕ → List ℕ → ℕ → ℕ → List Request → Reply → List ℕ → Type 0
+AllTurned m taken free unmet qs reply taken′ = (reply ≡ roomRun m taken free unmet 0 qs) × (taken′ ≡ takenRun m taken free unmet qs)

@@ -11,9 +11,9 @@ use borrow.Author.Tests.{eqb-true, eqb-false}
 use Rattle.limits.specs.Test.{_&_, pick}
 use Rattle.limits.proofs.Tests.{both}
 use Rattle.octets.specs.Number.{two, four}
-use Rattle.records.specs.Records.{addressAt, standsBefore}
+use Rattle.records.specs.Records.{hasAddress, standsBefore}
 use Rattle.merging.specs.Merge.{Differ}
-use Rattle.batch_tests.specs.Tests.{flagOf, flagAt}
+use Rattle.batch_tests.specs.Tests.{addressFlag, flagAt}
 
 -- each of the first n records has its flag set
 pub data Marked (flags r : List ℕ) : ℕ → Type 0 where
@@ -21,19 +21,19 @@ pub data Marked (flags r : List ℕ) : ℕ → Type 0 where
   one-marked : {n : ℕ} → getD flags (flagAt r (24 * n)) 0 ≡ 1 → Marked flags r n → Marked flags r (suc n)
 
 -- a record with an address has the flag of that address
-same-flag : (r : List ℕ) (at ca ioa : ℕ) → addressAt r at ca ioa ≡ true → flagAt r at ≡ flagOf ca ioa
-unfolding addressAt flagAt
-same-flag r at ca ioa e = let b = both _ _ e in ap₂ flagOf (eqb-true _ _ (b .0)) (eqb-true _ _ (b .1))
+same-flag : (r : List ℕ) (at ca ioa : ℕ) → hasAddress r at ca ioa ≡ true → flagAt r at ≡ addressFlag ca ioa
+unfolding hasAddress flagAt
+same-flag r at ca ioa e = let b = both _ _ e in ap₂ addressFlag (eqb-true _ _ (b .0)) (eqb-true _ _ (b .1))
 
 -- No flag, no such address.
-pub unmarked : (flags r : List ℕ) (ca ioa n : ℕ) → Marked flags r n → getD flags (flagOf ca ioa) 0 ≡ 0 → standsBefore r ca ioa n ≡ false
+pub unmarked : (flags r : List ℕ) (ca ioa n : ℕ) → Marked flags r n → getD flags (addressFlag ca ioa) 0 ≡ 0 → standsBefore r ca ioa n ≡ false
 unfolding standsBefore
 unmarked flags r ca ioa zero none-marked z = refl
-unmarked flags r ca ioa (suc n) (one-marked p w) z = by-test (addressAt r (24 * n) ca ioa) refl (unmarked flags r ca ioa n w z)
+unmarked flags r ca ioa (suc n) (one-marked p w) z = by-test (hasAddress r (24 * n) ca ioa) refl (unmarked flags r ca ioa n w z)
   where
-    by-test : (b : Bool) → addressAt r (24 * n) ca ioa ≡ b → standsBefore r ca ioa n ≡ false → pick b true (standsBefore r ca ioa n) ≡ false
+    by-test : (b : Bool) → hasAddress r (24 * n) ca ioa ≡ b → standsBefore r ca ioa n ≡ false → pick b true (standsBefore r ca ioa n) ≡ false
     by-test true e s =
-        let one : getD flags (flagOf ca ioa) 0 ≡ 1 = ap (λ (k : ℕ). getD flags k 0) (sym (same-flag r (24 * n) ca ioa e)) ∙ p in
+        let one : getD flags (addressFlag ca ioa) 0 ≡ 1 = ap (λ (k : ℕ). getD flags k 0) (sym (same-flag r (24 * n) ca ioa e)) ∙ p in
         absurd (omega arith)
     by-test false e s = s
 
@@ -66,7 +66,7 @@ flag-says flags r k n e w z = unmarked flags r _ _ n w (ap (λ (y : ℕ). getD f
 
 -- none of the first k records has the address of record i
 none-same : (r : List ℕ) (n i k : ℕ) → Differ r n → i < n → k ≤ i → standsBefore r (two r (24 * i)) (four r (24 * i + 2)) k ≡ false
-unfolding standsBefore addressAt
+unfolding standsBefore hasAddress
 none-same r n i zero d h l = refl
 none-same r n i (suc k) d h l = by-test (eqb (two r (24 * k)) (two r (24 * i)) & eqb (four r (24 * k + 2)) (four r (24 * i + 2))) refl (none-same r n i k d h (omega arith))
   where

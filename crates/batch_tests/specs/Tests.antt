@@ -3,6 +3,7 @@ use Prim.Native.Nat.{ℕ, _+_, _*_, _%_}
 use mathlib.Core.List.{List}
 use mathlib.Core.Bool.{Bool, true, false}
 use Rattle.octets.specs.Number.{two, four}
+use Rattle.records.specs.Records.{recordOctets, ioaInRecord, standsBefore}
 use Rattle.seats.specs.declared.Spot.{Spot}
 use Rattle.seats.specs.declared.Spot.the-variants.{Held, Missing}
 
@@ -11,10 +12,18 @@ abbrev pub isHeld : Spot → Bool
 isHeld (Held at) = true
 isHeld (Missing at) = false
 
+-- How many flags there are for the addresses passed.
+abbrev pub flagCount : ℕ
+flagCount = 16384
+
 -- The flag of an address.
-unfoldable pub flagOf : ℕ → ℕ → ℕ
-flagOf ca ioa = (ioa + 10125 * ca) % 16384
+unfoldable pub addressFlag : ℕ → ℕ → ℕ
+addressFlag ca ioa = (ioa + 10125 * ca) % flagCount
 
 -- The flag of the record at `at`.
 unfoldable pub flagAt : List ℕ → ℕ → ℕ
-flagAt m at = flagOf (two m at) (four m (at + 2))
+flagAt m at = addressFlag (two m at) (four m (at + ioaInRecord))
+
+-- Does the address of record i stand in one of those before it?
+abbrev pub comesAgain : List ℕ → ℕ → Bool
+comesAgain m i = standsBefore m (two m (recordOctets * i)) (four m (recordOctets * i + ioaInRecord)) i

@@ -1,53 +1,55 @@
 -- The ways out of a process command, as the code goes: each gives back what `answeredOn` says and leaves the memories that `lentAfter` says. Assumes nothing.
-use mathlib.Core.Path.{_≡_, refl, sym, ap, _∙_, subst}
-use mathlib.Core.List.{List, []}
+use mathlib.Core.Path.{_≡_, refl, sym, ap, _∙_}
+use mathlib.Core.List.{List, [], _∷_}
+use mathlib.Core.Logic.{⊎-elim}
 use mathlib.Core.Bool.{Bool, true, false}
 use mathlib.Core.Option.{some}
-use Prim.Native.Nat.{ℕ, _+_, _/_, _≤_, _<_}
+use Prim.Native.Nat.{ℕ, _+_, _-_, _/_, _≤_, _<_}
 use native.Mathlib.Omega.{arith}
 use lib.ListN.{length}
 use borrow.Author.Tests.{le-leb, lt-leb, leb-true}
+use types.Run.{OneOf}
+use denote.Enum.Declared.{tagOf}
 use Rattle.limits.specs.Test.{pick}
-use Rattle.limits.specs.Size.{standardLimit}
-use Rattle.limits.specs.declared.outcome.Outcome.the-variants.{Done, Silent, Malformed, TableNotWellFormed, AnswerShort, SpontaneousShort, BadProposal}
+use Rattle.limits.specs.Size.{controlOctets, headerOctets}
+use Rattle.limits.specs.Outcome.{isDone}
+use Rattle.limits.specs.declared.outcome.Outcome.the-variants.{Done, Silent, AnswerShort, SpontaneousShort, BadProposal}
 use Rattle.limits.proofs.Tests.{both}
 use Rattle.octets.specs.Over.{over}
 use Rattle.table.specs.Table.{Table}
+use Rattle.table.specs.Settings.{limitOf}
 use Rattle.table.specs.Memory.{tableOf, wellFormed, parse}
 use Rattle.table.proofs.Parse.{parse-some}
 use Rattle.registry.specs.Effect.{holding}
 use Rattle.asdu.specs.declared.command.Command.{Command}
 use Rattle.asdu.specs.declared.command.Reading.{Reading}
 use Rattle.asdu.specs.declared.command.Reading.the-variants.{LengthOutOfRange, TypeNotServed, ObjectsNotWhole, Parsed}
+use Rattle.asdu.specs.declared.command.Entry.the-variants.{ProcessCommands}
+use Rattle.asdu.specs.Command.{readAs, outcomeOf}
+use Rattle.asdu.proofs.command.Reading.{the-type}
 use Rattle.asdu.proofs.Lengths.{length-reply}
 use Rattle.answers.specs.declared.Answered.{Answered}
-use Rattle.answers.specs.Said.{Said, Lent, fronted, outcomeWith, answeredFrom, lentFrom}
-use Rattle.answers.specs.Process.{Update, Proposal, updatesAt, updatesIn, proposalOk, processCauseTaken, processFrom, toldBy, tableAfter}
-use Rattle.answers.proofs.Ends.{Ends, front-is, ends-no-table, ends-nothing, ends-refused}
-use Rattle.commands.specs.Entry.{proposalOf, lentTo, Leaves, refusal, confirmationOf}
+use Rattle.answers.specs.Said.{Said, Lent, lent, fronted, outcomeWith, answeredFrom, lentFrom, Leaves, asItIs, nothing}
+use Rattle.answers.specs.Process.{Update, Proposal, updateOctets, updatesAt, updatesIn, proposalOk, processCauseTaken, processReply, processFrom, processSaid}
+use Rattle.answers.proofs.Ends.{front-is, ends-nothing, ends-refused}
+use Rattle.updates.specs.Updates.{toldByAll, leftByAll}
+use Rattle.commands.specs.Entry.{proposalOf}
 
--- The ends of an entry are the equations of its contract.
-pub met : (f : Table → Said) (l : Lent) (r : Answered) (table answer spontaneous : List ℕ) → Ends f l r (lentTo table answer spontaneous)
-    → Leaves f l r table answer spontaneous
-met f l r table answer spontaneous e =
-    (e .answers, ap (λ (x : Lent). x .table) (e .leaves), ap (λ (x : Lent). x .answer) (e .leaves), ap (λ (x : Lent). x .spontaneous) (e .leaves))
-
--- the same of a result that is known to be another
-pub gives : (f : Table → Said) (l : Lent) (r r′ : Answered) (table answer spontaneous : List ℕ) → r ≡ r′
-    → Leaves f l r′ table answer spontaneous → Leaves f l r table answer spontaneous
-gives f l r r′ table answer spontaneous e h = (e ∙ h .0, h .1, h .2, h .3)
+-- What is met of a result is met of one that is equal.
+pub gives : (f : Table → Said) (l l′ : Lent) (r r′ : Answered) → r ≡ r′ → Leaves asItIs f l r′ l′ → Leaves asItIs f l r l′
+gives f l l′ r r′ e h = record { answers = e ∙ h .answers; leaves = h .leaves }
 
 -- ---- commands that tell something
 
 module _ (f : Table → Said) (l : Lent) (w : wellFormed (l .table) ≡ true) (done : f (tableOf (l .table)) .outcome ≡ Done) where
   -- What is told does not fit: 5.
-  ends-untold : length (l .spontaneous) < length (f (tableOf (l .table)) .told) → Ends f l (refusal SpontaneousShort) l
+  ends-untold : length (l .spontaneous) < length (f (tableOf (l .table)) .told) → Leaves asItIs f l (nothing SpontaneousShort) l
   unfolding outcomeWith
   ends-untold h = ends-nothing f l w SpontaneousShort (simp (done, lt-leb _ _ h)) refl
 
   -- What is told fits, the answer does not: 4.
   ends-unanswered : length (f (tableOf (l .table)) .told) ≤ length (l .spontaneous) → length (l .answer) < length (f (tableOf (l .table)) .answer)
-      → Ends f l (refusal AnswerShort) l
+      → Leaves asItIs f l (nothing AnswerShort) l
   unfolding outcomeWith
   ends-unanswered k h = ends-nothing f l w AnswerShort (simp (done, le-leb _ _ k, lt-leb _ _ h)) refl
 
@@ -65,7 +67,7 @@ module _ (f : Table → Said) (l : Lent) (w : wellFormed (l .table) ≡ true) (d
         answer = fronted (f (tableOf (l .table)) .answer) (l .answer);
         spontaneous = fronted (f (tableOf (l .table)) .told) (l .spontaneous);
       }
-      → Ends f l (record { outcome = Done; octets = n; spontaneous = k }) l′
+      → Leaves asItIs f l (record { outcome = Done; octets = n; spontaneous = k }) l′
   unfolding answeredFrom lentFrom
   ends-told n k l′ en ln ek lk s =
       let d : outcomeWith (f (tableOf (l .table))) l ≡ Done = both-fit (omega arith) (omega arith) in
@@ -75,131 +77,118 @@ module _ (f : Table → Said) (l : Lent) (w : wellFormed (l .table) ≡ true) (d
         leaves = s ∙ sym (ap (lentFrom f l) p ∙ simp d);
       }
 
--- A good proposal has at most 243 octets of objects.
-pub most-reply : (kind : ℕ) (objects : List ℕ) → proposalOk standardLimit kind objects ≡ true → length objects ≤ 243
+-- A good proposal has no more octets of objects than the length limit leaves.
+pub most-reply : (limit kind : ℕ) (objects : List ℕ) → proposalOk limit kind objects ≡ true → length objects ≤ limit - (controlOctets + headerOctets)
 unfolding proposalOk
-most-reply kind objects ok = leb-true _ _ (both _ _ (both _ _ ok .1) .0)
+most-reply limit kind objects ok = leb-true _ _ (both _ _ (both _ _ ok .1) .0)
 
 -- ---- the updates that are read
 
 -- None of a negative proposal is read.
 pub updates-read : (negative : Bool) (us : List ℕ)
-    → pick {A = List Update} negative [] (updatesIn us) ≡ updatesAt us 0 (pick negative 0 (length us / 18))
+    → pick {A = List Update} negative [] (updatesIn us) ≡ updatesAt us 0 (pick negative 0 (length us / updateOctets))
 unfolding updatesAt
 updates-read true us = refl
 updates-read false us = refl
 
 -- ---- a command that was read
 
-module _ (table answer spontaneous : List ℕ) (negative : Bool) (kind : ℕ) (objects us : List ℕ) (c : Command) where
+module _ (l : Lent) (negative : Bool) (kind : ℕ) (objects us : List ℕ) (c : Command) where
   abbrev said : Table → Said
-  said = processFrom standardLimit (proposalOf negative kind objects us) (Parsed c)
+  said = processFrom (l .clock) (proposalOf negative kind objects us) (Parsed c)
 
-  abbrev lent : Lent
-  lent = lentTo table answer spontaneous
+  abbrev told : List ℕ
+  told = toldByAll (l .table) us 0 (pick negative 0 (length us / updateOctets))
 
-  abbrev read : List Update
-  read = updatesAt us 0 (pick negative 0 (length us / 18))
+  abbrev stored : List ℕ
+  stored = leftByAll (l .table) us 0 (pick negative 0 (length us / updateOctets))
 
-  module _ (w : wellFormed table ≡ true) where
+  abbrev confirmed : List ℕ
+  confirmed = processReply c (proposalOf negative kind objects [])
+
+  module _ (w : wellFormed (l .table) ≡ true) where
     -- The cause is not taken: 1.
-    pub process-silent : processCauseTaken (c .cause) ≡ false → Leaves said lent (refusal Silent) table answer spontaneous
+    pub process-silent : processCauseTaken (c .cause) ≡ false → Leaves asItIs said l (nothing Silent) l
     unfolding processFrom
-    process-silent e = met _ _ _ _ _ _ (ends-refused said lent w Silent (simp e) refl)
+    process-silent e = ends-refused said l w Silent (simp e) refl
 
     module _ (taken : processCauseTaken (c .cause) ≡ true) where
       -- A bad proposal: 6.
-      pub process-bad : proposalOk standardLimit kind objects ≡ false → Leaves said lent (refusal BadProposal) table answer spontaneous
+      pub process-bad : proposalOk (limitOf (tableOf (l .table))) kind objects ≡ false → Leaves asItIs said l (nothing BadProposal) l
       unfolding processFrom
-      process-bad e = met _ _ _ _ _ _ (ends-refused said lent w BadProposal (simp (taken, e)) refl)
+      process-bad e = ends-refused said l w BadProposal (simp (taken, e)) refl
 
-      module _ (ok : proposalOk standardLimit kind objects ≡ true) where
-        said-is : said (tableOf table) ≡ record {
-          outcome = Done;
-          answer = confirmationOf c negative kind objects;
-          told = toldBy (tableOf table) read;
-          after = tableAfter (tableOf table) read;
-          clock = [];
-        }
+      module _ (ok : proposalOk (limitOf (tableOf (l .table))) kind objects ≡ true) where
+        -- What is said, and the memory with its table.
+        said-done : said (tableOf (l .table)) .outcome ≡ Done
         unfolding processFrom
-        said-is =
-            simp (taken, ok)
-            (λ j. record {
-              outcome = Done;
-              answer = confirmationOf c negative kind objects;
-              told = toldBy (tableOf table) (updates-read negative us j);
-              after = tableAfter (tableOf table) (updates-read negative us j);
-              clock = [];
-            })
+        said-done = simp (taken, ok)
 
-        said-done : said (tableOf table) .outcome ≡ Done
-        said-done = ap (λ (x : Said). x .outcome) said-is
+        said-answer : said (tableOf (l .table)) .answer ≡ confirmed
+        unfolding processFrom
+        said-answer = simp (taken, ok)
 
-        told-length : length (said (tableOf table) .told) ≡ length (toldBy (tableOf table) read)
-        told-length = ap (λ (x : Said). length (x .told)) said-is
+        said-told : said (tableOf (l .table)) .told ≡ told
+        unfolding processFrom
+        said-told = simp (taken, ok, updates-read negative us)
 
-        answer-length : length (said (tableOf table) .answer) ≡ 6 + length objects
-        answer-length = ap (λ (x : Said). length (x .answer)) said-is ∙ length-reply c kind _ _ negative objects
+        said-after : holding (l .table) (tableOf (l .table)) (said (tableOf (l .table)) .after) ≡ stored
+        unfolding processFrom
+        said-after = simp (taken, ok, updates-read negative us)
+
+        said-clock : said (tableOf (l .table)) .clock ≡ l .clock
+        unfolding processFrom
+        said-clock = simp (taken, ok)
+
+        answer-length : length (said (tableOf (l .table)) .answer) ≡ headerOctets + length objects
+        answer-length = ap length said-answer ∙ length-reply c kind _ _ negative objects
 
         -- The spontaneous memory is short: 5.
-        pub process-untold : length spontaneous < length (toldBy (tableOf table) read) → Leaves said lent (refusal SpontaneousShort) table answer spontaneous
-        process-untold h = let e = told-length in met _ _ _ _ _ _ (ends-untold said lent w said-done (omega arith))
+        pub process-untold : length (l .spontaneous) < length told → Leaves asItIs said l (nothing SpontaneousShort) l
+        process-untold h = let e = ap length said-told in ends-untold said l w said-done (omega arith)
 
         -- The answer memory is short: 4.
-        pub process-unanswered : length (toldBy (tableOf table) read) ≤ length spontaneous → length answer < 6 + length objects
-            → Leaves said lent (refusal AnswerShort) table answer spontaneous
+        pub process-unanswered : length told ≤ length (l .spontaneous) → length (l .answer) < headerOctets + length objects
+            → Leaves asItIs said l (nothing AnswerShort) l
         process-unanswered k h =
-            let e = told-length in
+            let e = ap length said-told in
             let f = answer-length in
-            met _ _ _ _ _ _ (ends-unanswered said lent w said-done (omega arith) (omega arith))
+            ends-unanswered said l w said-done (omega arith) (omega arith)
 
         -- Stored, told and confirmed.
-        pub process-done : (table′ answer′ spontaneous′ : List ℕ) (n k : ℕ) → n ≡ 6 + length objects → n ≤ length answer
-            → k ≡ length (toldBy (tableOf table) read) → k ≤ length spontaneous
-            → table′ ≡ holding table (tableOf table) (tableAfter (tableOf table) read)
-            → answer′ ≡ over answer 0 (confirmationOf c negative kind objects)
-            → spontaneous′ ≡ over spontaneous 0 (toldBy (tableOf table) read)
-            → Leaves said lent (record { outcome = Done; octets = n; spontaneous = k }) table′ answer′ spontaneous′
-        process-done table′ answer′ spontaneous′ n k en ln ek lk et ea es =
-            let e = told-length in
+        pub process-done : (table answer spontaneous : List ℕ) (n k : ℕ) → n ≡ headerOctets + length objects → n ≤ length (l .answer)
+            → k ≡ length told → k ≤ length (l .spontaneous)
+            → table ≡ stored → answer ≡ over (l .answer) 0 confirmed → spontaneous ≡ over (l .spontaneous) 0 told
+            → Leaves asItIs said l (record { outcome = Done; octets = n; spontaneous = k }) (lent table (l .clock) answer spontaneous)
+        process-done table answer spontaneous n k en ln ek lk et ea es =
+            let e = ap length said-told in
             let f = answer-length in
-            let a = ea ∙ front-is answer (confirmationOf c negative kind objects) in
-            let s = es ∙ front-is spontaneous (toldBy (tableOf table) read) in
-            met _ _ _ _ _ _
-            (ends-told said lent w said-done n k (lentTo table′ answer′ spontaneous′) (omega arith) ln (omega arith) lk
-            ((λ j. record { table = et j; clock = []; answer = a j; spontaneous = s j })
-            ∙ (λ j.
-            record {
-              table = holding table (tableOf table) (sym said-is j .after);
-              clock = sym said-is j .clock;
-              answer = fronted (sym said-is j .answer) answer;
-              spontaneous = fronted (sym said-is j .told) spontaneous;
-            })))
+            let t = et ∙ sym said-after in
+            let a = ea ∙ front-is (l .answer) confirmed ∙ ap (λ (x : List ℕ). fronted x (l .answer)) (sym said-answer) in
+            let s = es ∙ front-is (l .spontaneous) told ∙ ap (λ (x : List ℕ). fronted x (l .spontaneous)) (sym said-told) in
+            ends-told said l w said-done n k _ (omega arith) ln (omega arith) lk (λ j. lent (t j) (sym said-clock j) (a j) (s j))
 
--- ---- an entry's own tests
+-- ---- what was read
 
--- No table: 3.
-pub process-no-table : (table answer spontaneous : List ℕ) (f : Table → Said) → wellFormed table ≡ false
-    → Leaves f (lentTo table answer spontaneous) (refusal TableNotWellFormed) table answer spontaneous
-process-no-table table answer spontaneous f w = met _ _ _ _ _ _ (ends-no-table f (lentTo table answer spontaneous) w)
+-- No command was read: its number.
+pub process-unread : (l : Lent) (p : Proposal) → wellFormed (l .table) ≡ true → (x : Reading) → OneOf (0 ∷ 1 ∷ 2 ∷ []) (tagOf the-type x)
+    → Leaves asItIs (processFrom (l .clock) p x) l (nothing (outcomeOf x)) l
+unfolding processFrom
+process-unread l p w LengthOutOfRange k = ends-refused _ l w (outcomeOf LengthOutOfRange) refl refl
+process-unread l p w TypeNotServed k = ends-refused _ l w (outcomeOf TypeNotServed) refl refl
+process-unread l p w ObjectsNotWhole k = ends-refused _ l w (outcomeOf ObjectsNotWhole) refl refl
+process-unread l p w (Parsed c) k = absurd (⊎-elim (λ e. omega arith) (λ v. ⊎-elim (λ e. omega arith) (λ e. omega arith) v) k)
 
-module _ (table answer spontaneous : List ℕ) (p : Proposal) (w : wellFormed table ≡ true) where
-  -- No command was read: 2, 1, 2.
-  pub process-length : Leaves (processFrom standardLimit p LengthOutOfRange) (lentTo table answer spontaneous) (refusal Malformed) table answer spontaneous
-  unfolding processFrom
-  process-length = met _ _ _ _ _ _ (ends-refused (processFrom standardLimit p LengthOutOfRange) (lentTo table answer spontaneous) w Malformed refl refl)
-
-  pub process-type : Leaves (processFrom standardLimit p TypeNotServed) (lentTo table answer spontaneous) (refusal Silent) table answer spontaneous
-  unfolding processFrom
-  process-type = met _ _ _ _ _ _ (ends-refused (processFrom standardLimit p TypeNotServed) (lentTo table answer spontaneous) w Silent refl refl)
-
-  pub process-objects : Leaves (processFrom standardLimit p ObjectsNotWhole) (lentTo table answer spontaneous) (refusal Malformed) table answer spontaneous
-  unfolding processFrom
-  process-objects = met _ _ _ _ _ _ (ends-refused (processFrom standardLimit p ObjectsNotWhole) (lentTo table answer spontaneous) w Malformed refl refl)
-
-  -- What is met of what was read is met of the ASDU.
-  pub process-read : (answer′ spontaneous′ table′ : List ℕ) (r : Answered) (x y : Reading) → x ≡ y
-      → Leaves (processFrom standardLimit p y) (lentTo table answer spontaneous) r table′ answer′ spontaneous′
-      → Leaves (processFrom standardLimit p x) (lentTo table answer spontaneous) r table′ answer′ spontaneous′
-  process-read answer′ spontaneous′ table′ r x y e h =
-      subst (λ (z : Reading). Leaves (processFrom standardLimit p z) (lentTo table answer spontaneous) r table′ answer′ spontaneous′) (sym e) h
+-- What is met of what was read is met of the ASDU.
+pub process-read : (l l′ : Lent) (p : Proposal) (m : List ℕ) (r : Answered) (x : Reading) → wellFormed (l .table) ≡ true
+    → x ≡ readAs (limitOf (tableOf (l .table))) ProcessCommands m
+    → Leaves asItIs (processFrom (l .clock) p x) l r l′ → Leaves asItIs (processSaid (l .clock) p m) l r l′
+unfolding answeredFrom lentFrom
+process-read l l′ p m r x w e h =
+    let t : Table = tableOf (l .table) in
+    let q : parse (l .table) ≡ some t = parse-some (l .table) w in
+    let f : Reading → Table → Said = λ y u. processFrom (l .clock) p y u in
+    record {
+      answers = h .answers ∙ ap (answeredFrom (f x) l) q ∙ (λ j. answeredFrom (f (e j)) l (some t)) ∙ sym (ap (answeredFrom (processSaid (l .clock) p m) l) q);
+      leaves = h .leaves ∙ ap (lentFrom (f x) l) q ∙ (λ j. lentFrom (f (e j)) l (some t)) ∙ sym (ap (lentFrom (processSaid (l .clock) p m) l) q);
+    }

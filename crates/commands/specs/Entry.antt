@@ -1,38 +1,28 @@
 -- The arguments of the entry for process commands as the definitions of `answers` have them.
-use Prim.Native.Nat.{ℕ, _+_, _/_}
-use mathlib.Core.Path.{_≡_}
+use Prim.Native.Nat.{ℕ}
 use mathlib.Core.List.{List, []}
 use mathlib.Core.Bool.{Bool}
-use lib.ListN.{length}
-use Rattle.limits.specs.Size.{addressOctets, elementOctets}
-use Rattle.limits.specs.declared.outcome.Outcome.{Outcome}
-use Rattle.asdu.specs.declared.command.Command.{Command}
-use Rattle.asdu.specs.Confirmation.{reply}
-use Rattle.answers.specs.declared.Answered.{Answered}
-use Rattle.table.specs.Table.{Table}
-use Rattle.answers.specs.Said.{Said, Lent, answeredOn, lentAfter}
-use Rattle.answers.specs.Process.{Proposal, updatesIn, confirmationCause}
+use denote.Triple.Both.{Both}
+use denote.Ref.{RefT, now}
+use Rattle.answers.specs.Said.{Lent, lent}
+use Rattle.answers.specs.Process.{Proposal, updatesIn}
 
--- The proposal that a caller hands in: its updates lie in a flat list, 18 octets each.
+-- The proposal that a caller hands in: its updates lie in a flat list.
 abbrev pub proposalOf : Bool → ℕ → List ℕ → List ℕ → Proposal
 proposalOf negative kind objects updates = record { negative = negative; kind = kind; objects = objects; updates = updatesIn updates }
 
--- The memories that are lent to a process command; it has no clock.
-abbrev pub lentTo : List ℕ → List ℕ → List ℕ → Lent
-lentTo table answer spontaneous = record { table = table; clock = []; answer = answer; spontaneous = spontaneous }
+-- A memory that is lent to a call: as the call finds it, and as it leaves it.
+abbrev pub Memory : Type 0
+Memory = Both (RefT (List ℕ)) (RefT (List ℕ))
 
--- What a command gives back and leaves, the result and each of the three memories, where it says f to a table.
-abbrev pub Leaves : (Table → Said) → Lent → Answered → List ℕ → List ℕ → List ℕ → Type 0
-Leaves f l r table answer spontaneous =
-    (r ≡ answeredOn f l) × (table ≡ lentAfter f l .table) × (answer ≡ lentAfter f l .answer) × (spontaneous ≡ lentAfter f l .spontaneous)
+-- The same of a caller's slices.
+abbrev pub proposed : Bool → ℕ → Memory → Memory → Proposal
+proposed negative kind reply updates = proposalOf negative kind (now (reply .entry)) (now (updates .entry))
 
--- ---- as the code reads
+-- The three memories of a process command as it finds them; it has no clock.
+abbrev pub asFound : Memory → Memory → Memory → Lent
+asFound table answer spontaneous = lent (now (table .entry)) [] (now (answer .entry)) (now (spontaneous .entry))
 
--- a number other than 0
-abbrev pub refusal : Outcome → Answered
-refusal o = record { outcome = o; octets = 0; spontaneous = 0 }
-
--- the confirmation, which looks at no update
-abbrev pub confirmationOf : Command → Bool → ℕ → List ℕ → List ℕ
-confirmationOf c negative kind objects =
-    reply c kind (length objects / (addressOctets + elementOctets kind)) (confirmationCause (c .cause)) negative objects
+-- And as it leaves them.
+abbrev pub asLeft : Memory → Memory → Memory → Lent
+asLeft table answer spontaneous = lent (now (table .exit)) [] (now (answer .exit)) (now (spontaneous .exit))

@@ -9,23 +9,24 @@ use limits::size::ADDRESS_OCTETS;
 use limits::size::CONTROL_OCTETS;
 use limits::size::Class;
 use limits::size::HEADER_OCTETS;
-use limits::size::STANDARD_LIMIT;
 use updates::UPDATE_OCTETS;
 ghost use mathlib.Core.Path.{_≡_};
+ghost use mathlib.Core.List.{[]};
 ghost use mathlib.Core.Bool.{true};
 ghost use Prim.Native.Nat.{_+_, _*_, _/_, _≤_, _<_};
 ghost use lib.ListN.{length};
 ghost use Rattle.limits.specs.Test.{pick};
-ghost use Rattle.limits.specs.Size.{standardLimit, classOf};
+ghost use Rattle.limits.specs.Size.{classOf, controlOctets, headerOctets};
 ghost use Rattle.octets.specs.Over.{over};
 ghost use Rattle.table.specs.Memory.{wellFormed};
 ghost use Rattle.asdu.specs.Command.{isProcess};
 ghost use Rattle.asdu.specs.declared.command.Reading.the-variants.{Parsed};
-ghost use Rattle.answers.specs.Process.{proposalOk, processCauseTaken, confirmationCause, processFrom, processSaid};
-ghost use Rattle.commands.specs.Entry.{proposalOf, lentTo, Leaves, refusal, confirmationOf};
+ghost use Rattle.answers.specs.Said.{Leaves, asItIs};
+ghost use Rattle.answers.specs.Process.{updateOctets, proposalOk, processCauseTaken, confirmationCause, processReply, processFrom, processSaid};
+ghost use Rattle.commands.specs.Entry.{proposalOf, proposed, asFound, asLeft};
 
-// The most octets of reply objects.
-const MOST_REPLY_OCTETS: usize = STANDARD_LIMIT - CONTROL_OCTETS - HEADER_OCTETS;
+// The octets of an APDU before its first object.
+const BEFORE_OBJECTS: usize = CONTROL_OCTETS + HEADER_OCTETS;
 
 // ---- tests
 
@@ -54,14 +55,15 @@ fn is_supported_command_type(kind: u8) -> bool
     }
 }
 
-// Is the proposed reply of a process type, and its objects whole and not too many?
-fn is_proposal(kind: u8, reply: &[u8]) -> bool
-    ensures { λ r. ⌜ r ≡ proposalOk standardLimit kind (now (reply .entry)) ⌝ }
+// Is the proposed reply of a process type, and its objects whole and not too many for the length limit?
+fn is_proposal(limit: usize, kind: u8, reply: &[u8]) -> bool
+    requires { ⌜ controlOctets + headerOctets ≤ limit ⌝ }
+    ensures { λ r. ⌜ r ≡ proposalOk limit kind (now (reply .entry)) ⌝ }
 {
     if !is_supported_command_type(kind) {
         return false;
     }
-    if MOST_REPLY_OCTETS < reply.len() {
+    if limit - BEFORE_OBJECTS < reply.len() {
         return false;
     }
     let element = limits::size::element_octets(kind);
@@ -70,7 +72,7 @@ fn is_proposal(kind: u8, reply: &[u8]) -> bool
 
 // How many updates are read: none of a negative proposal.
 fn updates_read(negative: bool, updates: &[u8]) -> usize
-    ensures { λ r. ⌜ (r ≡ pick negative 0 (length (now (updates .entry)) / 18)) × (18 * r ≤ length (now (updates .entry))) ⌝ }
+    ensures { λ r. ⌜ (r ≡ pick negative 0 (length (now (updates .entry)) / updateOctets)) × (updateOctets * r ≤ length (now (updates .entry))) ⌝ }
 {
     if negative {
         return 0;
@@ -90,16 +92,16 @@ fn command_reply_cot(cause: u8) -> u8
     cot::ACTIVATION_CONFIRMATION
 }
 
-// Writes the confirmation at the front of `answer`: the Rust's `send_command_confirmation`.
-fn put_command_confirmation(
+// Writes the confirmation at the front of `answer`.
+fn send_command_confirmation(
     answer: &mut [u8],
     command: Command,
     negative: bool,
     kind: u8,
     reply: &[u8],
 ) -> usize
-    requires { ⌜ (length (now reply) ≤ 243) × (6 + length (now reply) ≤ length (now answer)) ⌝ }
-    ensures { λ r. ⌜ (r ≡ 6 + length (now (reply .entry))) × (now (answer .exit) ≡ over (now (answer .entry)) 0 (confirmationOf command negative kind (now (reply .entry)))) ⌝ }
+    requires { ⌜ (length (now reply) < 256) × (headerOctets + length (now reply) ≤ length (now answer)) ⌝ }
+    ensures { λ r. ⌜ (r ≡ headerOctets + length (now (reply .entry))) × (now (answer .exit) ≡ over (now (answer .entry)) 0 (processReply command (proposalOf negative kind (now (reply .entry)) []))) ⌝ }
 {
     let element = limits::size::element_octets(kind);
     let count = (reply.len() / (ADDRESS_OCTETS + element)) as u8;
@@ -108,17 +110,6 @@ fn put_command_confirmation(
 }
 
 // ---- the command
-
-// A number other than 0: nothing was written.
-fn refused(outcome: Outcome) -> Answered
-    ensures { λ r. ⌜ r ≡ refusal outcome ⌝ }
-{
-    Answered {
-        outcome: outcome,
-        octets: 0,
-        spontaneous: 0,
-    }
-}
 
 // Answers a command that was read: 1, 6, 5, 4, each known before anything is written; else the updates are stored and told, and the command confirmed.
 fn handle_process_command(
@@ -132,24 +123,24 @@ fn handle_process_command(
     spontaneous: &mut [u8],
 ) -> Answered
     requires { ⌜ wellFormed (now table) ≡ true ⌝ }
-    ensures { λ r. ⌜ Leaves (processFrom standardLimit (proposalOf negative «reply_type» (now (reply .entry)) (now (updates .entry))) (Parsed command)) (lentTo (now (table .entry)) (now (answer .entry)) (now (spontaneous .entry))) r (now (table .exit)) (now (answer .exit)) (now (spontaneous .exit)) ⌝ }
+    ensures { λ r. ⌜ Leaves asItIs (processFrom [] (proposed negative «reply_type» reply updates) (Parsed command)) (asFound table answer spontaneous) r (asLeft table answer spontaneous) ⌝ }
 {
     if !is_command_cot(command.cause) {
-        return refused(Outcome::Silent);
+        return Answered::nothing(Outcome::Silent);
     }
-    if !is_proposal(reply_type, reply) {
-        return refused(Outcome::BadProposal);
+    if !is_proposal(settings::limit_of(table), reply_type, reply) {
+        return Answered::nothing(Outcome::BadProposal);
     }
     let n = updates_read(negative, updates);
     let told = updates::told_octets(table, updates, n);
     if spontaneous.len() < told {
-        return refused(Outcome::SpontaneousShort);
+        return Answered::nothing(Outcome::SpontaneousShort);
     }
     if answer.len() < HEADER_OCTETS + reply.len() {
-        return refused(Outcome::AnswerShort);
+        return Answered::nothing(Outcome::AnswerShort);
     }
-    updates::apply(table, updates, n, spontaneous);
-    let octets = put_command_confirmation(answer, command, negative, reply_type, reply);
+    updates::apply_model_updates(table, updates, n, spontaneous);
+    let octets = send_command_confirmation(answer, command, negative, reply_type, reply);
     Answered {
         outcome: Outcome::Done,
         octets: octets,
@@ -168,25 +159,24 @@ pub fn process_command(
     answer: &mut [u8],
     spontaneous: &mut [u8],
 ) -> Answered
-    ensures { λ r. ⌜ Leaves (processSaid standardLimit (proposalOf negative «reply_type» (now (reply .entry)) (now (updates .entry))) (now (asdu .entry))) (lentTo (now (table .entry)) (now (answer .entry)) (now (spontaneous .entry))) r (now (table .exit)) (now (answer .exit)) (now (spontaneous .exit)) ⌝ }
+    ensures { λ r. ⌜ Leaves asItIs (processSaid [] (proposed negative «reply_type» reply updates) (now (asdu .entry))) (asFound table answer spontaneous) r (asLeft table answer spontaneous) ⌝ }
 {
     if !wellformed::well_formed(table) {
-        return refused(Outcome::TableNotWellFormed);
+        return Answered::nothing(Outcome::TableNotWellFormed);
     }
-    let reading = asdu::command::parse(asdu, Entry::ProcessCommands, STANDARD_LIMIT);
-    match reading {
-        Reading::LengthOutOfRange => refused(Outcome::Malformed),
-        Reading::TypeNotServed => refused(Outcome::Silent),
-        Reading::ObjectsNotWhole => refused(Outcome::Malformed),
-        Reading::Parsed(command) => handle_process_command(
-            table,
-            command,
-            negative,
-            reply_type,
-            reply,
-            updates,
-            answer,
-            spontaneous,
-        ),
-    }
+    let limit = settings::limit_of(table);
+    let reading = asdu::command::parse(asdu, Entry::ProcessCommands, limit);
+    let Reading::Parsed(command) = reading else {
+        return Answered::nothing(reading.outcome());
+    };
+    handle_process_command(
+        table,
+        command,
+        negative,
+        reply_type,
+        reply,
+        updates,
+        answer,
+        spontaneous,
+    )
 }

@@ -6,7 +6,7 @@ use registry::Reply;
 ghost use mathlib.Core.Path.{_≡_};
 ghost use mathlib.Core.List.{map};
 ghost use Rattle.limits.specs.Size.{standardLimit};
-ghost use Rattle.registry.specs.Effect.{replyOn, memoryOn};
+ghost use Rattle.replies.specs.Replies.{Replies};
 ghost use Rattle.registry.specs.Registry.{registeringAll};
 ghost use Rattle.points.specs.Points.{whole};
 ghost use Rattle.answers.specs.System.{systemSaid};
@@ -15,21 +15,21 @@ ghost use Rattle.clock.specs.Clock.{octetsOf, Leaves};
 
 // Registers no points.
 pub fn register_none(table: &mut [u8], points: [Request; 0]) -> Reply
-    ensures { λ r. ⌜ (r ≡ replyOn (registeringAll (map whole points)) (now (table .entry))) × (now (table .exit) ≡ memoryOn (registeringAll (map whole points)) (now (table .entry))) ⌝ }
+    ensures { λ r. ⌜ Replies (registeringAll (map whole points)) (now (table .entry)) r (now (table .exit)) ⌝ }
 {
     point_lists::register_points(table, &points)
 }
 
 // Registers a batch of one point.
 pub fn register_one(table: &mut [u8], points: [Request; 1]) -> Reply
-    ensures { λ r. ⌜ (r ≡ replyOn (registeringAll (map whole points)) (now (table .entry))) × (now (table .exit) ≡ memoryOn (registeringAll (map whole points)) (now (table .entry))) ⌝ }
+    ensures { λ r. ⌜ Replies (registeringAll (map whole points)) (now (table .entry)) r (now (table .exit)) ⌝ }
 {
     point_lists::register_points(table, &points)
 }
 
 // Registers a batch of three points.
 pub fn register_three(table: &mut [u8], points: [Request; 3]) -> Reply
-    ensures { λ r. ⌜ (r ≡ replyOn (registeringAll (map whole points)) (now (table .entry))) × (now (table .exit) ≡ memoryOn (registeringAll (map whole points)) (now (table .entry))) ⌝ }
+    ensures { λ r. ⌜ Replies (registeringAll (map whole points)) (now (table .entry)) r (now (table .exit)) ⌝ }
 {
     point_lists::register_points(table, &points)
 }

@@ -23,7 +23,7 @@ use Rattle.table.proofs.Cut.{six, head-over, places-append, places-at, held-at,
 use Rattle.table.proofs.Change.{Found, stations-split, insert-length}
 use Rattle.seats.proofs.Laws.{Standing}
 use Rattle.seats.proofs.Halving.{seek-le}
-use Rattle.insert.specs.Insert.{putIn, placed}
+use Rattle.insert.specs.Insert.{putIn, placed, HasRoom}
 
 -- ---- lists only: a place put in in one part, and two octets changed in another
 put-at : (H B P Q D N Z E S T R L T′ : List ℕ) (from to at : ℕ)
@@ -148,7 +148,7 @@ insert-parsed m t ca p s w i h at o e room z =
 -- What `insert` asks of the numbers.
 pub insert-bounds : (t : Table) (m : List ℕ) (ca ioa : ℕ) (s : Station) (w : Found ca (t .stations) s) (i h at : ℕ) → Good t → Laid m t
     → total held (t .stations) < t .capacity → Standing (t .stations) ca ioa s w i h at
-    → (64 + 48 * two m 4 + 8 * two m 6 ≤ length m) × (two m 8 < two m 4) × (i < two m 6) × (h < 65535) × (at ≤ 64 + 48 * two m 8)
+    → HasRoom m i h at
 insert-bounds t m ca ioa s w i h at g l room z =
     let e4 : two m 4 ≡ t .capacity = l .is-k in
     let e6 : two m 6 ≡ length (t .stations) = l .is-s in

@@ -1,5 +1,5 @@
--- What the interface narrows to 32 bits arrives whole: the number of points removed and a station's share are at most K, the end of
--- initialisation has ten octets, and a place in a batch is at most the number of its records.
+-- What the interface narrows to 32 bits arrives whole: the number of points removed and a station's share are at most K, and a place in a batch is
+-- at most the number of its records. (Octets of answers: `promises`, proofs/Small.antt.)
 -- Assumes nothing.
 use mathlib.Core.Path.{_≡_, refl, sym, ap, _∙_}
 use mathlib.Core.List.{List, [], _∷_, _++_}
@@ -20,15 +20,11 @@ use Rattle.table.specs.Change.{stationOf}
 use Rattle.table.specs.Memory.{parse}
 use Rattle.table.proofs.Parse.{Good, good-is, parse-sound}
 use Rattle.table.proofs.Change.{station-found}
-use Rattle.report.specs.Single.{stationCommonAddress}
-use Rattle.report.proofs.Single.{length-end}
 use Rattle.registry.specs.declared.Reply.{Reply}
 use Rattle.registry.specs.declared.StationShare.{StationShare}
 use Rattle.registry.specs.Effect.{Effect, replyFrom, replyOn}
 use Rattle.registry.specs.Registry.{roomFault, withRequest, batchFault, ownTests, roomTests, registeringAll, unregisteringAll, noShare, shareIn, shareFrom, shareOn}
 use Rattle.registry.proofs.Histories.{station-numbers}
-use Rattle.answers.specs.Said.{Lent, outcomeWith, answeredFrom, answeredOn}
-use Rattle.answers.specs.Start.{startSaid}
 use Rattle.khuvelter.specs.Interface.{narrowed}
 
 -- A number below 4,294,967,296 is given as it is.
@@ -47,20 +43,6 @@ removed-from m o (some t) e =
 -- The number of points that the removal of all lets go.
 pub removed-whole : (m : List ℕ) → Octets m → narrowed (replyOn unregisteringAll m .place) ≡ replyOn unregisteringAll m .place
 removed-whole m o = removed-from m o (parse m) refl
-
-ten-or-none : (done : Bool) (n : ℕ) → n ≡ 10 → narrowed (pick done n 0) ≡ pick done n 0
-ten-or-none true n e = whole n (omega arith)
-ten-or-none false n e = refl
-
-started-from : (l : Lent) (t : Option Table) → narrowed (answeredFrom startSaid l t .octets) ≡ answeredFrom startSaid l t .octets
-unfolding answeredFrom
-started-from l none = refl
-started-from l (some t) =
-    ten-or-none (isDone (outcomeWith (startSaid t) l)) _ (length-end (stationCommonAddress (t .stations)))
-
--- The octets that the start of a connection writes.
-pub started-whole : (l : Lent) → narrowed (answeredOn startSaid l .octets) ≡ answeredOn startSaid l .octets
-started-whole l = started-from l (parse (l .table))
 
 -- ---- a batch
 

@@ -1,6 +1,4 @@
 -- The C interface's plain numbers: what each entry's answer becomes at the boundary. DESIGN.md, section 5.
-use mathlib.Core.Path.{_≡_}
-use mathlib.Core.List.{List}
 use mathlib.Core.Bool.{Bool, not}
 use lib.Dec.{eqb}
 use Prim.Native.Nat.{ℕ, _%_}
@@ -9,8 +7,6 @@ use Rattle.limits.specs.declared.outcome.Outcome.{Outcome}
 use Rattle.registry.specs.declared.Reply as registry
 use Rattle.registry.specs.declared.StationShare.{StationShare}
 use Rattle.answers.specs.declared.Answered.{Answered}
-use Rattle.answers.specs.Said.{Said, Lent, answeredOn, lentAfter}
-use Rattle.table.specs.Table.{Table}
 use Rattle.khuvelter.specs.declared.Reply.{Reply}
 use Rattle.khuvelter.specs.declared.Share.{Share}
 
@@ -46,17 +42,3 @@ flatShare s =
 -- A flag octet: 0 for no, anything else for yes.
 abbrev pub isSet : ℕ → Bool
 isSet flag = not (eqb flag 0)
-
--- What a system command gives back and leaves: the numbers, the clock, the table and the answer memory of what it says.
-pub record SystemReply (f : Table → Said) (l : Lent) (r : Reply) (clock table answer : List ℕ) : Type 0 where
-  pub answered : r ≡ answerReply (answeredOn f l)
-  pub clock-left : clock ≡ lentAfter f l .clock
-  pub table-left : table ≡ lentAfter f l .table
-  pub answer-left : answer ≡ lentAfter f l .answer
-
--- What a process command gives back and leaves: the numbers, the table, the answer and the spontaneous memory of what it says.
-pub record ProcessReply (f : Table → Said) (l : Lent) (r : Reply) (table answer spontaneous : List ℕ) : Type 0 where
-  pub answered : r ≡ answerReply (answeredOn f l)
-  pub table-left : table ≡ lentAfter f l .table
-  pub answer-left : answer ≡ lentAfter f l .answer
-  pub spontaneous-left : spontaneous ≡ lentAfter f l .spontaneous

@@ -4,20 +4,15 @@ use answers::Answered;
 use limits::outcome::Outcome;
 use registry::StationShare;
 ghost use mathlib.Core.Path.{_≡_};
-ghost use Rattle.model.specs.Request.{requestAt};
-ghost use Rattle.records.specs.Records.{requestsIn};
-ghost use Rattle.registry.specs.Effect.{replyOn, memoryOn};
-ghost use Rattle.registry.specs.Opening.{openOutcome, openedMemory};
-ghost use Rattle.registry.specs.Registry.{registering, registeringAll, unregistering, unregisteringAll, shareOn};
-ghost use Rattle.answers.specs.Said.{answeredOn, lentAfter};
-ghost use Rattle.answers.specs.Start.{startSaid};
-ghost use Rattle.starting.specs.Starting.{lentTo};
-ghost use Rattle.limits.specs.Size.{standardLimit};
-ghost use Rattle.answers.specs.System.{systemSaid};
-ghost use Rattle.answers.specs.Process.{processSaid};
-ghost use Rattle.system_command_handler.specs.Handler.{lentTo as lentToSystem};
-ghost use Rattle.commands.specs.Entry.{proposalOf, lentTo as lentToProcess};
-ghost use Rattle.khuvelter.specs.Interface.{SystemReply, ProcessReply, isSet, narrowed, plainReply, placeReply, answerReply, flatShare};
+ghost use mathlib.Core.List.{[]};
+ghost use Rattle.registry.specs.Registry.{shareOn};
+ghost use Rattle.answers.specs.Said.{lent};
+ghost use Rattle.commands.specs.Entry.{asFound, asLeft};
+ghost use Rattle.khuvelter.specs.Interface.{isSet, narrowed, plainReply, placeReply, answerReply, flatShare};
+ghost use Rattle.khuvelter.specs.Calls.{tableAlone, systemFound, systemLeft, Meets};
+ghost use Rattle.khuvelter.specs.Calls.Change.{registerPoint, registerPoints, unregisterPoint, unregisterAll};
+ghost use Rattle.khuvelter.specs.Calls.Question.{connectionStarted, system, process};
+ghost use Rattle.khuvelter.specs.Calls.Call.{openTable, change, ask};
 
 // What every call gives back: document 01's number; the place of the faulty point of a refused batch, or the number of points removed by
 // `khuvelter_unregister_all`, else 0; the octets written to the answer and to the spontaneous memory, 0 unless the number is 0.
@@ -109,7 +104,7 @@ fn flat_share(share: StationShare) -> Share
 // Opens a table of capacity K under a plan, CA, reservation and ceiling for each station: 10, or 0 and the fresh table.
 #[no_mangle]
 pub extern "C" fn khuvelter_open(table: &mut [u8], capacity: u32, plan: &[u16]) -> Reply
-    ensures { λ r. ⌜ (r ≡ plainReply (openOutcome capacity (now (plan .entry)) (now (table .entry)))) × (now (table .exit) ≡ openedMemory capacity (now (plan .entry)) (now (table .entry))) ⌝ }
+    ensures { λ r. ⌜ Meets (openTable capacity (now (plan .entry))) (tableAlone (now (table .entry))) r (tableAlone (now (table .exit))) ⌝ }
 {
     plain_reply(opening::open(table, capacity, plan))
 }
@@ -117,7 +112,7 @@ pub extern "C" fn khuvelter_open(table: &mut [u8], capacity: u32, plan: &[u16]) 
 // Registers one point, given as a record of 24 octets: 3, then 11 to 15 and 17, then 19 and 20.
 #[no_mangle]
 pub extern "C" fn khuvelter_register_point(table: &mut [u8], record: &[u8; 24]) -> Reply
-    ensures { λ r. ⌜ (r ≡ placeReply (replyOn (registering (requestAt (now («record» .entry)) 0)) (now (table .entry)))) × (now (table .exit) ≡ memoryOn (registering (requestAt (now («record» .entry)) 0)) (now (table .entry))) ⌝ }
+    ensures { λ r. ⌜ Meets (change (registerPoint (now («record» .entry)))) (tableAlone (now (table .entry))) r (tableAlone (now (table .exit))) ⌝ }
 {
     let request = model::request_at(record, 0);
     place_reply(actor::register_point(table, request))
@@ -126,7 +121,7 @@ pub extern "C" fn khuvelter_register_point(table: &mut [u8], record: &[u8; 24]) 
 // Registers a batch of points, given as records of 24 octets one after another: all or none; octets after the last whole record are ignored.
 #[no_mangle]
 pub extern "C" fn khuvelter_register_points(table: &mut [u8], records: &[u8]) -> Reply
-    ensures { λ r. ⌜ (r ≡ placeReply (replyOn (registeringAll (requestsIn (now (records .entry)))) (now (table .entry)))) × (now (table .exit) ≡ memoryOn (registeringAll (requestsIn (now (records .entry)))) (now (table .entry))) ⌝ }
+    ensures { λ r. ⌜ Meets (change (registerPoints (now (records .entry)))) (tableAlone (now (table .entry))) r (tableAlone (now (table .exit))) ⌝ }
 {
     place_reply(batch::register_points(table, records))
 }
@@ -134,7 +129,7 @@ pub extern "C" fn khuvelter_register_points(table: &mut [u8], records: &[u8]) ->
 // Removes one point: 3, then 18.
 #[no_mangle]
 pub extern "C" fn khuvelter_unregister_point(table: &mut [u8], ca: u16, ioa: u32) -> Reply
-    ensures { λ r. ⌜ (r ≡ placeReply (replyOn (unregistering ca ioa) (now (table .entry)))) × (now (table .exit) ≡ memoryOn (unregistering ca ioa) (now (table .entry))) ⌝ }
+    ensures { λ r. ⌜ Meets (change (unregisterPoint ca ioa)) (tableAlone (now (table .entry))) r (tableAlone (now (table .exit))) ⌝ }
 {
     place_reply(actor::unregister_point(table, ca, ioa))
 }
@@ -142,7 +137,7 @@ pub extern "C" fn khuvelter_unregister_point(table: &mut [u8], ca: u16, ioa: u32
 // Removes all points: 3, else their number as the place; the plan stays.
 #[no_mangle]
 pub extern "C" fn khuvelter_unregister_all(table: &mut [u8]) -> Reply
-    ensures { λ r. ⌜ (r ≡ placeReply (replyOn unregisteringAll (now (table .entry)))) × (now (table .exit) ≡ memoryOn unregisteringAll (now (table .entry))) ⌝ }
+    ensures { λ r. ⌜ Meets (change unregisterAll) (tableAlone (now (table .entry))) r (tableAlone (now (table .exit))) ⌝ }
 {
     place_reply(actor::unregister_all(table))
 }
@@ -150,7 +145,7 @@ pub extern "C" fn khuvelter_unregister_all(table: &mut [u8]) -> Reply
 // The start of a connection: 3, then 4, else the end of initialisation.
 #[no_mangle]
 pub extern "C" fn khuvelter_connection_started(table: &[u8], answer: &mut [u8]) -> Reply
-    ensures { λ r. ⌜ (r ≡ answerReply (answeredOn startSaid (lentTo (now (table .entry)) (now (answer .entry))))) × (now (answer .exit) ≡ lentAfter startSaid (lentTo (now (table .entry)) (now (answer .entry))) .answer) ⌝ }
+    ensures { λ r. ⌜ Meets (ask connectionStarted) (lent (now (table .entry)) [] (now (answer .entry)) []) r (lent (now (table .entry)) [] (now (answer .exit)) []) ⌝ }
 {
     answer_reply(starting::connection_started(table, answer))
 }
@@ -171,7 +166,7 @@ pub extern "C" fn khuvelter_system_command(
     asdu: &[u8],
     answer: &mut [u8],
 ) -> Reply
-    ensures { λ r. ⌜ SystemReply (systemSaid standardLimit (now (clock .entry)) (now (asdu .entry))) (lentToSystem (now (table .entry)) (now (clock .entry)) (now (answer .entry))) r (now (clock .exit)) (now (table .exit)) (now (answer .exit)) ⌝ }
+    ensures { λ r. ⌜ Meets (ask (system (now (asdu .entry)))) (systemFound table clock answer) r (systemLeft table clock answer) ⌝ }
 {
     let said = system_command_handler::system_command(table, *clock, asdu, answer);
     let back = said.clock;
@@ -191,7 +186,7 @@ pub extern "C" fn khuvelter_process_command(
     answer: &mut [u8],
     spontaneous: &mut [u8],
 ) -> Reply
-    ensures { λ r. ⌜ ProcessReply (processSaid standardLimit (proposalOf (isSet negative) «reply_type» (now (reply .entry)) (now (updates .entry))) (now (asdu .entry))) (lentToProcess (now (table .entry)) (now (answer .entry)) (now (spontaneous .entry))) r (now (table .exit)) (now (answer .exit)) (now (spontaneous .exit)) ⌝ }
+    ensures { λ r. ⌜ Meets (ask (process (now (asdu .entry)) negative «reply_type» (now (reply .entry)) (now (updates .entry)))) (asFound table answer spontaneous) r (asLeft table answer spontaneous) ⌝ }
 {
     answer_reply(commands::process_command(
         table,

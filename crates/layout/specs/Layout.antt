@@ -1,12 +1,12 @@
 -- The layout of a table's memory: a head, K places, the stations; the size of each, and where their numbers lie. Low octet first.
 -- Number 10 of document 01 has the sizes: 48 × K + 8 × stations + 64.
 use Prim.Native.Nat.{ℕ, _+_, _*_}
-use mathlib.Core.List.{List}
+use mathlib.Core.List.{List, [], _∷_}
 use Rattle.octets.specs.Number.{two}
 
 -- ---- sizes, in octets
 
--- The head: mark, K, number of stations, number of points, spare octets.
+-- The head: mark, K, number of stations, number of points, settings, spare octets.
 abbrev pub headSize : ℕ
 headSize = 64
 
@@ -28,6 +28,10 @@ mostStations = 64
 
 -- ---- in the head
 
+-- The first octets of every table.
+abbrev pub mark : List ℕ
+mark = 0x4B ∷ 0x48 ∷ 0x56 ∷ 0x01 ∷ []
+
 abbrev pub capacityOffset : ℕ
 capacityOffset = 4
 
@@ -37,12 +41,18 @@ stationsOffset = 6
 abbrev pub pointsOffset : ℕ
 pointsOffset = 8
 
+abbrev pub settingsOffset : ℕ
+settingsOffset = 10
+
+abbrev pub settingsSize : ℕ
+settingsSize = 4
+
 -- From here on the head is zero.
 abbrev pub spareOffset : ℕ
-spareOffset = 10
+spareOffset = 14
 
 abbrev pub spareSize : ℕ
-spareSize = 54
+spareSize = 50
 
 -- ---- in a place
 
@@ -58,12 +68,23 @@ groupOffset = 6
 abbrev pub counterOffset : ℕ
 counterOffset = 8
 
+-- An octet that is zero, and stands after the counter group.
+abbrev pub gapOffset : ℕ
+gapOffset = 9
+
 abbrev pub valueOffset : ℕ
 valueOffset = 10
 
 -- The octets of a value, those past its element included.
 abbrev pub valueSize : ℕ
 valueSize = 12
+
+-- From here on a place is zero.
+abbrev pub restOffset : ℕ
+restOffset = 22
+
+abbrev pub restSize : ℕ
+restSize = 26
 
 -- ---- in a station
 

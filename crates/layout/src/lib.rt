@@ -3,7 +3,7 @@
 ghost use mathlib.Core.Path.{_≡_};
 ghost use Prim.Native.Nat.{_+_, _*_, _≤_, _<_};
 ghost use lib.ListN.{length};
-ghost use Rattle.layout.specs.Layout.{headSize, placeSize, stationSize, mostPlaces, mostStations, capacityIn, stationsIn, pointsIn, stationsFrom, heldAt, heldOffset};
+ghost use Rattle.layout.specs.Layout.{headSize, placeSize, stationSize, capacityIn, stationsIn, pointsIn, stationsFrom, sizeIn, caAt, reservationAt, ceilingAt, heldAt};
 
 // ---- sizes, in octets
 
@@ -21,16 +21,23 @@ pub const MOST_STATIONS: usize = 64;
 
 // ---- in the head
 
+// The first octets of every table, 4B 48 56 01, as a number.
+pub const MARK: usize = 22431819;
+
 pub const CAPACITY_OFFSET: usize = 4;
 
 pub const STATIONS_OFFSET: usize = 6;
 
 pub const POINTS_OFFSET: usize = 8;
 
-// From here on the head is zero.
-pub const SPARE_OFFSET: usize = 10;
+pub const SETTINGS_OFFSET: usize = 10;
 
-pub const SPARE_SIZE: usize = 54;
+pub const SETTINGS_SIZE: usize = 4;
+
+// From here on the head is zero.
+pub const SPARE_OFFSET: usize = 14;
+
+pub const SPARE_SIZE: usize = 50;
 
 // ---- in a place
 
@@ -46,6 +53,11 @@ pub const VALUE_OFFSET: usize = 10;
 
 // The octets of a value, those past its element included.
 pub const VALUE_SIZE: usize = 12;
+
+// From here on a place is zero.
+pub const REST_OFFSET: usize = 22;
+
+pub const REST_SIZE: usize = 26;
 
 // ---- in a station
 
@@ -81,6 +93,14 @@ pub fn points_of(m: &[u8]) -> usize
     octets::two_at(m, POINTS_OFFSET)
 }
 
+// The octets of the table.
+pub fn size_of(m: &[u8]) -> usize
+    requires { ⌜ headSize ≤ length (now m) ⌝ }
+    ensures { λ r. ⌜ r ≡ sizeIn (now (m .entry)) ⌝ }
+{
+    HEAD_SIZE + PLACE_SIZE * capacity_of(m) + STATION_SIZE * stations_of(m)
+}
+
 // ---- where places and stations lie
 
 // Place i of those from `first`.
@@ -99,7 +119,33 @@ pub fn station_at(m: &[u8], i: usize) -> usize
     HEAD_SIZE + PLACE_SIZE * capacity_of(m) + STATION_SIZE * i
 }
 
-// The held of the station at `at`.
+// ---- what a station says, its octets being at `at`
+
+// Its CA.
+pub fn ca_at(m: &[u8], at: usize) -> usize
+    requires { ⌜ at + stationSize ≤ length (now m) ⌝ }
+    ensures { λ r. ⌜ (r ≡ caAt (now (m .entry)) at) × (r < 65536) ⌝ }
+{
+    octets::two_at(m, at)
+}
+
+// Its reservation.
+pub fn reservation_at(m: &[u8], at: usize) -> usize
+    requires { ⌜ at + stationSize ≤ length (now m) ⌝ }
+    ensures { λ r. ⌜ (r ≡ reservationAt (now (m .entry)) at) × (r < 65536) ⌝ }
+{
+    octets::two_at(m, at + RESERVATION_OFFSET)
+}
+
+// Its ceiling.
+pub fn ceiling_at(m: &[u8], at: usize) -> usize
+    requires { ⌜ at + stationSize ≤ length (now m) ⌝ }
+    ensures { λ r. ⌜ (r ≡ ceilingAt (now (m .entry)) at) × (r < 65536) ⌝ }
+{
+    octets::two_at(m, at + CEILING_OFFSET)
+}
+
+// Its held.
 pub fn held_at(m: &[u8], at: usize) -> usize
     requires { ⌜ at + stationSize ≤ length (now m) ⌝ }
     ensures { λ r. ⌜ (r ≡ heldAt (now (m .entry)) at) × (r < 65536) ⌝ }

@@ -1,9 +1,9 @@
 -- Shares: what a station holds, what it may hold, what is kept free for it, and who is admitted.
 -- Document 01, 'Points, stations and shares'. No point stands here, only numbers.
 use Prim.Native.Nat.{ℕ, _+_, _-_, _≤_}
-use mathlib.Core.Bool.{Bool, true, false, _||_}
+use mathlib.Core.Bool.{_||_}
 use mathlib.Core.List.{List, [], _∷_}
-use lib.Dec.{ltb, leb}
+use lib.Dec.{ltb}
 use Rattle.limits.specs.Test.{pick, total}
 use Rattle.limits.specs.declared.share.Share.{Share}
 use Rattle.limits.specs.declared.share.Admission.{Admission}
@@ -30,12 +30,6 @@ admissionOf s free unmet =
     pick (ltb (s .held) (s .ceiling))
     (pick (ltb (s .held) (s .reservation) || ltb unmet free) Admitted NoRoom)
     CeilingReached
-
--- Document 01's number of each answer: 0 done, 19 ceiling, 20 not admitted.
-abbrev pub admissionNumber : Admission → ℕ
-admissionNumber Admitted = 0
-admissionNumber CeilingReached = 19
-admissionNumber NoRoom = 20
 
 -- ---- a gateway's shares
 

@@ -1,6 +1,6 @@
 // A station's share of the point table. Document 01, 'Points, stations and shares'; new beside the Rust.
 ghost use mathlib.Core.Path.{_≡_};
-ghost use Rattle.limits.specs.Share.{takenIn, letGo, unmetOf, admissionOf, admissionNumber};
+ghost use Rattle.limits.specs.Share.{takenIn, letGo, unmetOf, admissionOf};
 
 // How many points a station holds, how many are kept for it, and how many it may hold.
 pub struct Share {
@@ -69,18 +69,5 @@ impl Share {
             return Admission::Admitted;
         }
         Admission::NoRoom
-    }
-}
-
-impl Admission {
-    // Document 01's number.
-    pub fn number(self) -> u32
-        ensures { λ r. ⌜ r ≡ admissionNumber self ⌝ }
-    {
-        match self {
-            Admission::Admitted => 0,
-            Admission::CeilingReached => 19,
-            Admission::NoRoom => 20,
-        }
     }
 }

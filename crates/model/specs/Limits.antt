@@ -5,7 +5,7 @@ use lib.Dec.{leb}
 use Rattle.limits.specs.Test.{pick}
 use Rattle.limits.specs.Size.{pointOctets, valuesFrom}
 use Rattle.octets.specs.Number.{power}
-use Rattle.model.specs.Place.{isCounter}
+use Rattle.model.specs.Place.{isCounter, counterGroups}
 
 -- the first eight octets of a value, as a number, are at most this, by the octets of its element
 unfoldable pub firstOf : ℕ → ℕ
@@ -24,8 +24,12 @@ lastLimit kind = lastOf (pointOctets kind)
 
 -- the counter group and the octet after it, as a number, are at most this
 unfoldable pub counterLimit : ℕ → ℕ
-counterLimit kind = pick (isCounter kind) 4 0
+counterLimit kind = pick (isCounter kind) counterGroups 0
 
--- the three limits, each of the types 0 to 40
+-- the types from 0 to the last that is a point's
+abbrev pub types : ℕ
+types = 41
+
+-- the three limits, each of these types
 unfoldable pub placeLimits : List ℕ
-placeLimits = valuesFrom firstLimit 0 41 ++ (valuesFrom lastLimit 0 41 ++ valuesFrom counterLimit 0 41)
+placeLimits = valuesFrom firstLimit 0 types ++ (valuesFrom lastLimit 0 types ++ valuesFrom counterLimit 0 types)

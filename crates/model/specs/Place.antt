@@ -1,36 +1,54 @@
 -- A registered point, the 48 octets of its place, and the tests of both.
 -- Document 01, 'Points, stations and shares'; DESIGN.md, section 3.
-use Prim.Native.Nat.{ℕ, zero, suc, _+_, _*_, _-_, _/_, _%_}
-use mathlib.Core.List.{List, [], _∷_, _++_}
-use mathlib.Core.Bool.{Bool, true, false, _||_}
-use lib.ListN.{length, take, drop, getD, replicate}
+use Prim.Native.Nat.{ℕ, zero, suc, _+_, _-_}
+use mathlib.Core.List.{List, _∷_, _++_}
+use mathlib.Core.Bool.{Bool, true, _||_}
+use lib.ListN.{length, getD, replicate}
 use lib.Dec.{leb, eqb}
 use Rattle.limits.specs.Test.{_&_}
 use Rattle.limits.specs.Size.{pointOctets}
-use Rattle.octets.specs.Number.{two, three, twelve, zeros}
+use Rattle.octets.specs.Number.{two, three, twelve, pair, triple, zeros}
+use Rattle.layout.specs.Layout.{placeSize, caOffset, ioaOffset, groupOffset, counterOffset, gapOffset, valueOffset, valueSize, restOffset, restSize}
 use Rattle.model.specs.declared.Point.{Point}
 
--- The counters are types 15 and 37.
+-- The two types of counters: integrated totals, without and with a time tag.
+abbrev pub integratedTotals : ℕ
+integratedTotals = 15
+
+abbrev pub timedIntegratedTotals : ℕ
+timedIntegratedTotals = 37
+
 abbrev pub isCounter : ℕ → Bool
-isCounter kind = eqb kind 15 || eqb kind 37
+isCounter kind = eqb kind integratedTotals || eqb kind timedIntegratedTotals
+
+-- The highest IOA, the number of interrogation groups, and that of counter groups.
+abbrev pub highestIoa : ℕ
+highestIoa = 16777215
+
+abbrev pub groups : ℕ
+groups = 16
+
+abbrev pub counterGroups : ℕ
+counterGroups = 4
+
+-- A point with another value.
+abbrev pub withValue : List ℕ → Point → Point
+withValue v p = record { kind = p .kind; ioa = p .ioa; group = p .group; counter = p .counter; value = v }
 
 -- A point as described: a point type, IOA at most 16,777,215, interrogation group at most 16 and counter group at most 4 (0: no group),
 -- a counter group only on a counter, twelve octets of value of which those past the element are zero.
 unfoldable pub valid : Point → Bool
 valid p =
-    leb 1 (pointOctets (p .kind)) & leb (p .group) 16 & leb (p .counter) 4 & (eqb (p .counter) 0 || isCounter (p .kind))
-    & zeros (p .value) (pointOctets (p .kind)) (12 - pointOctets (p .kind))
+    leb 1 (pointOctets (p .kind)) & leb (p .group) groups & leb (p .counter) counterGroups & (eqb (p .counter) 0 || isCounter (p .kind))
+    & zeros (p .value) (pointOctets (p .kind)) (valueSize - pointOctets (p .kind))
 
 unfoldable pub pointOk : Point → Bool
-pointOk p = leb (p .ioa) 16777215 & eqb (length (p .value)) 12 & valid p
+pointOk p = leb (p .ioa) highestIoa & eqb (length (p .value)) valueSize & valid p
 
 -- The 48 octets of a point of station ca: type, CA, IOA, interrogation group, counter group, 0, value, zeros.
 abbrev pub placeOf : ℕ → Point → List ℕ
 placeOf ca p =
-    p .kind ∷ ca % 256 ∷ ca / 256 ∷ p .ioa % 256 ∷ p .ioa / 256 % 256 ∷ p .ioa / 65536 ∷ p .group % 256 ∷ p .group / 256 ∷ p .counter ∷ 0
-    ∷ getD (p .value) 0 0 ∷ getD (p .value) 1 0 ∷ getD (p .value) 2 0 ∷ getD (p .value) 3 0 ∷ getD (p .value) 4 0 ∷ getD (p .value) 5 0
-    ∷ getD (p .value) 6 0 ∷ getD (p .value) 7 0 ∷ getD (p .value) 8 0 ∷ getD (p .value) 9 0 ∷ getD (p .value) 10 0 ∷ getD (p .value) 11 0
-    ∷ replicate 26 0
+    p .kind ∷ (pair ca ++ (triple (p .ioa) ++ (pair (p .group) ++ (p .counter ∷ 0 ∷ (twelve (p .value) 0 ++ replicate restSize 0)))))
 
 -- ---- as the code reads: nobody need believe what follows, the laws of `table` tie it to `pointOk` and `placeOf`
 
@@ -39,18 +57,19 @@ abbrev pub pointAt : List ℕ → ℕ → Point
 pointAt m at =
     record {
       kind = getD m at 0;
-      ioa = three m (at + 3);
-      group = two m (at + 6);
-      counter = getD m (at + 8) 0;
-      value = twelve m (at + 10);
+      ioa = three m (at + ioaOffset);
+      group = two m (at + groupOffset);
+      counter = getD m (at + counterOffset) 0;
+      value = twelve m (at + valueOffset);
     }
 
 -- the place at `at` holds a valid point of station ca, IOA not below `low`, and its spare octets are zero
 unfoldable pub placeOk : List ℕ → ℕ → ℕ → ℕ → Bool
 placeOk m at ca low =
-    eqb (two m (at + 1)) ca & leb low (three m (at + 3)) & valid (pointAt m at) & eqb (getD m (at + 9) 0) 0 & zeros m (at + 22) 26
+    eqb (two m (at + caOffset)) ca & leb low (three m (at + ioaOffset)) & valid (pointAt m at)
+    & eqb (getD m (at + gapOffset) 0) 0 & zeros m (at + restOffset) restSize
 
 -- the same of n places, IOA rising
 unfoldable pub placesOk : List ℕ → ℕ → ℕ → ℕ → ℕ → Bool
 placesOk m at ca low zero = true
-placesOk m at ca low (suc n) = placeOk m at ca low & placesOk m (at + 48) ca (three m (at + 3) + 1) n
+placesOk m at ca low (suc n) = placeOk m at ca low & placesOk m (at + placeSize) ca (three m (at + ioaOffset) + 1) n

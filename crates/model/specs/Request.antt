@@ -2,8 +2,8 @@
 -- Document 01, 'Points, stations and shares' and 'Numbers given back'; DESIGN.md, section 5.
 use Prim.Native.Nat.{ℕ, zero, suc, _+_, _-_}
 use mathlib.Core.List.{List, [], _∷_, _++_}
-use mathlib.Core.Bool.{Bool, true, false}
-use lib.ListN.{length, take, drop, getD, replicate}
+use mathlib.Core.Bool.{Bool, true}
+use lib.ListN.{take, getD, replicate}
 use lib.Dec.{leb, eqb}
 use Rattle.limits.specs.Test.{_&_, pick}
 use Rattle.limits.specs.Size.{pointOctets}
@@ -14,7 +14,8 @@ use Rattle.model.specs.declared.Point.{Point}
 use Rattle.model.specs.declared.Group.{Group}
 use Rattle.model.specs.declared.Group.the-variants.{None, Number}
 use Rattle.model.specs.declared.Request.{Request}
-use Rattle.model.specs.Place.{isCounter}
+use Rattle.layout.specs.Layout.{valueSize}
+use Rattle.model.specs.Place.{isCounter, highestIoa, groups, counterGroups}
 
 -- A group that is given lies from 1 to `most`; "no group" is not group 0.
 abbrev pub groupOk : ℕ → Group → Bool
@@ -29,10 +30,10 @@ counterOk kind (Number g) = isCounter kind
 -- The first of the tests 11 to 15 that fails, `planned` being whether the plan has the CA; Done where none does.
 unfoldable pub ownFault : Bool → Request → Outcome
 ownFault planned q =
-    pick (leb 1 (pointOctets (q .kind)) & leb (q .ioa) 16777215)
+    pick (leb 1 (pointOctets (q .kind)) & leb (q .ioa) highestIoa)
     (pick planned
-    (pick (groupOk 16 (q .group))
-    (pick (groupOk 4 (q .counter))
+    (pick (groupOk groups (q .group))
+    (pick (groupOk counterGroups (q .counter))
     (pick (counterOk (q .kind) (q .counter)) Done NotCounter)
     CounterGroupOutOfRange)
     GroupOutOfRange)
@@ -46,7 +47,7 @@ groupNumber (Number g) = g
 
 -- The octets of an element of e octets; any past it are ignored and kept as zero.
 unfoldable pub element : ℕ → List ℕ → List ℕ
-element e v = take e v ++ replicate (12 - e) 0
+element e v = take e v ++ replicate (valueSize - e) 0
 
 -- The point that a request becomes.
 unfoldable pub pointOf : Request → Point
@@ -60,6 +61,9 @@ pointOf q =
     }
 
 -- ---- the flat form: CA 2, IOA 4, type 1, has interrogation group 1, group 1, has counter group 1, counter group 1, spare 1, value 12
+
+abbrev pub recordSize : ℕ
+recordSize = 24
 
 -- 0 no, else yes
 abbrev pub givenGroup : ℕ → ℕ → Group
@@ -79,4 +83,4 @@ requestAt m at =
 -- the n requests from `at`
 unfoldable pub requestsAt : List ℕ → ℕ → ℕ → List Request
 requestsAt m at zero = []
-requestsAt m at (suc n) = requestAt m at ∷ requestsAt m (at + 24) n
+requestsAt m at (suc n) = requestAt m at ∷ requestsAt m (at + recordSize) n

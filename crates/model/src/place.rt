@@ -1,32 +1,15 @@
-// A point's place of 48 octets: read and written.
+// A point's place of 48 octets, written.
 use crate::Point;
+use layout::PLACE_SIZE;
 ghost use mathlib.Core.Path.{_≡_};
 ghost use Prim.Native.Nat.{_+_, _≤_, _<_};
 ghost use lib.ListN.{length};
 ghost use Rattle.octets.specs.Over.{over};
-ghost use Rattle.model.specs.Place.{pointAt, placeOf};
-
-// The point at a place.
-pub fn point_at(m: &[u8], at: usize) -> Point
-    requires { ⌜ at + 48 ≤ length (now m) ⌝ }
-    ensures { λ r. ⌜ r ≡ pointAt (now (m .entry)) at ⌝ }
-{
-    let kind = m[at];
-    let counter = m[at + 8];
-    let ioa = octets::three_at(m, at + 3) as u32;
-    let group = octets::two_at(m, at + 6) as u16;
-    let value = octets::twelve_at(m, at + 10);
-    Point {
-        kind: kind,
-        ioa: ioa,
-        group: group,
-        counter: counter,
-        value: value,
-    }
-}
+ghost use Rattle.layout.specs.Layout.{placeSize};
+ghost use Rattle.model.specs.Place.{placeOf};
 
 // The 48 octets of a point of station ca.
-pub fn place_of(ca: usize, p: Point) -> [u8; 48]
+pub fn place_of(ca: usize, p: Point) -> [u8; PLACE_SIZE]
     requires { ⌜ (ca < 65536) × (p .ioa < 16777216) ⌝ }
     ensures { λ r. ⌜ r ≡ placeOf ca p ⌝ }
 {
@@ -85,7 +68,7 @@ pub fn place_of(ca: usize, p: Point) -> [u8; 48]
 
 // Writes the place of a point of station ca.
 pub fn put_place(m: &mut [u8], at: usize, ca: usize, p: Point)
-    requires { ⌜ (at + 48 ≤ length (now m)) × (ca < 65536) × (p .ioa < 16777216) ⌝ }
+    requires { ⌜ (at + placeSize ≤ length (now m)) × (ca < 65536) × (p .ioa < 16777216) ⌝ }
     ensures { λ _. ⌜ now (m .exit) ≡ over (now (m .entry)) at (placeOf ca p) ⌝ }
 {
     let octets = place_of(ca, p);

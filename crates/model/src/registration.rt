@@ -1,12 +1,20 @@
 // A point as a caller gives it for registration: read from its flat record, tested, and made a point.
+use crate::COUNTER_GROUPS;
+use crate::GROUPS;
 use crate::Group;
+use crate::HIGHEST_IOA;
+use crate::M_IT_NA_1;
+use crate::M_IT_TB_1;
 use crate::Point;
 use crate::Request;
+use layout::VALUE_SIZE;
 use limits::outcome::Outcome;
 ghost use mathlib.Core.Path.{_≡_};
 ghost use Prim.Native.Nat.{_+_, _≤_, _<_};
 ghost use lib.ListN.{length};
-ghost use Rattle.model.specs.Request.{groupOk, counterOk, groupNumber, givenGroup, element, ownFault, pointOf, requestAt};
+ghost use Rattle.layout.specs.Layout.{valueSize};
+ghost use Rattle.model.specs.Place.{isCounter};
+ghost use Rattle.model.specs.Request.{recordSize, groupOk, counterOk, groupNumber, givenGroup, element, ownFault, pointOf, requestAt};
 
 // A record's group: the first octet says whether there is one.
 fn given_group(has: u8, group: u8) -> Group
@@ -20,7 +28,7 @@ fn given_group(has: u8, group: u8) -> Group
 
 // The request in the record of 24 octets at `at`.
 pub fn request_at(records: &[u8], at: usize) -> Request
-    requires { ⌜ at + 24 ≤ length (now records) ⌝ }
+    requires { ⌜ at + recordSize ≤ length (now records) ⌝ }
     ensures { λ r. ⌜ r ≡ requestAt (now (records .entry)) at ⌝ }
 {
     let ca = octets::two_at(records, at) as u16;
@@ -54,18 +62,23 @@ fn group_ok(most: u8, group: Group) -> bool
     }
 }
 
+// Is the type a counter's?
+pub fn is_counter(kind: u8) -> bool
+    ensures { λ r. ⌜ r ≡ isCounter kind ⌝ }
+{
+    if kind == M_IT_NA_1 {
+        return true;
+    }
+    kind == M_IT_TB_1
+}
+
 // Is a counter group given only with a counter?
 fn counter_ok(kind: u8, counter: Group) -> bool
     ensures { λ r. ⌜ r ≡ counterOk kind counter ⌝ }
 {
     match counter {
         Group::None => true,
-        Group::Number(_) => {
-            if kind == 15 {
-                return true;
-            }
-            kind == 37
-        }
+        Group::Number(_) => is_counter(kind),
     }
 }
 
@@ -76,18 +89,18 @@ pub fn own_fault(planned: bool, q: Request) -> Outcome
     if limits::size::point_octets(q.kind) < 1 {
         return Outcome::UnknownTypeOrAddress;
     }
-    if 16777215 < q.ioa {
+    if HIGHEST_IOA < q.ioa {
         return Outcome::UnknownTypeOrAddress;
     }
     if !planned {
         return Outcome::StationNotPlanned;
     }
     let group = q.group;
-    if !group_ok(16, group) {
+    if !group_ok(GROUPS, group) {
         return Outcome::GroupOutOfRange;
     }
     let counter = q.counter;
-    if !group_ok(4, counter) {
+    if !group_ok(COUNTER_GROUPS, counter) {
         return Outcome::CounterGroupOutOfRange;
     }
     if !counter_ok(q.kind, counter) {
@@ -107,12 +120,12 @@ fn group_number(group: Group) -> u8
 }
 
 // A value's octets, those past its element zero.
-fn element_of(value: [u8; 12], size: usize) -> [u8; 12]
-    requires { ⌜ size ≤ 12 ⌝ }
+fn element_of(value: [u8; VALUE_SIZE], size: usize) -> [u8; VALUE_SIZE]
+    requires { ⌜ size ≤ valueSize ⌝ }
     ensures { λ r. ⌜ r ≡ element size value ⌝ }
 {
     let mut octets = value;
-    octets::clear(&mut octets, size, 12);
+    octets::clear(&mut octets, size, VALUE_SIZE);
     octets
 }
 

@@ -16,7 +16,7 @@ use Rattle.limits.proofs.Tests.{both, join}
 use Rattle.limits.proofs.Shares.{nothingHeld}
 use Rattle.octets.specs.Over.{over}
 use Rattle.octets.proofs.Laws.{over-over, length-over}
-use Rattle.table.specs.Table.{held, unmet, reserved, shareOf, rising, allRising, planOk, placesOf, bodies, entries, head, image, good}
+use Rattle.table.specs.Table.{document01, held, unmet, reserved, shareOf, rising, allRising, planOk, placesOf, bodies, entries, head, image, good}
 use Rattle.table.specs.Memory.{parse}
 use Rattle.table.proofs.Stations.{length-entries}
 use Rattle.table.proofs.Parse.{good-is, is-good, length-image, parse-complete}
@@ -65,36 +65,36 @@ rises-none (a ∷ (b ∷ (c ∷ rest))) = rises-none rest
 
 -- ---- its octets
 
--- The image of a fresh table: the head's ten octets, zeros, stations.
+-- The image of a fresh table: the head's start, zeros, stations.
 pub image-fresh : (k n : ℕ) (plan : List ℕ) → length (planned plan) ≡ n
-    → image (fresh k plan) ≡ headStart k n ++ (replicate (54 + 48 * k) 0 ++ entries (planned plan))
+    → image (fresh k plan) ≡ headStart k n ++ (replicate (50 + 48 * k) 0 ++ entries (planned plan))
 unfolding image
 image-fresh k n plan e =
     let E : List ℕ = entries (planned plan) in
     let h : total held (planned plan) ≡ 0 = held-none plan in
     let b : bodies (planned plan) ≡ [] = bodies-none plan in
     let z : k - 0 ≡ k = omega arith in
-    (λ j. head k (e j) (h j) ++ (b j ++ (replicate (48 * (k - h j)) 0 ++ E)))
-    ∙ ap (λ (x : ℕ). head k n 0 ++ (replicate (48 * x) 0 ++ E)) z
-    ∙ ap (λ (l : List ℕ). headStart k n ++ l) (sym (append-assoc (replicate 54 0) (replicate (48 * k) 0) E))
-    ∙ ap (λ (l : List ℕ). headStart k n ++ (l ++ E)) (replicate-append-replicate 54 (48 * k) 0)
+    (λ j. head document01 k (e j) (h j) ++ (b j ++ (replicate (48 * (k - h j)) 0 ++ E)))
+    ∙ ap (λ (x : ℕ). head document01 k n 0 ++ (replicate (48 * x) 0 ++ E)) z
+    ∙ ap (λ (l : List ℕ). headStart k n ++ l) (sym (append-assoc (replicate 50 0) (replicate (48 * k) 0) E))
+    ∙ ap (λ (l : List ℕ). headStart k n ++ (l ++ E)) (replicate-append-replicate 50 (48 * k) 0)
 
 -- What the code writes, one part after another, is the image.
 pub written : (m : List ℕ) (k n : ℕ) (plan : List ℕ) → length (planned plan) ≡ n → 48 * k + 8 * n + 64 ≤ length m
-    → over (over (over m 0 (headStart k n)) 10 (replicate (64 + 48 * k - 10) 0)) (64 + 48 * k) (entries (planned plan))
+    → over (over (over m 0 (headStart k n)) 14 (replicate (64 + 48 * k - 14) 0)) (64 + 48 * k) (entries (planned plan))
     ≡ over m 0 (image (fresh k plan))
 written m k n plan e room =
     let H : List ℕ = headStart k n in
     let E : List ℕ = entries (planned plan) in
-    let d : 64 + 48 * k - 10 ≡ 54 + 48 * k = omega arith in
-    let Z : List ℕ = replicate (54 + 48 * k) 0 in
-    let lz : length Z ≡ 54 + 48 * k = length-replicate {A = ℕ} (54 + 48 * k) 0 in
+    let d : 64 + 48 * k - 14 ≡ 50 + 48 * k = omega arith in
+    let Z : List ℕ = replicate (50 + 48 * k) 0 in
+    let lz : length Z ≡ 50 + 48 * k = length-replicate {A = ℕ} (50 + 48 * k) 0 in
     let le : length E ≡ 8 * length (planned plan) = length-entries (planned plan) in
     let lm : length (over m 0 H) ≡ length m = length-over m H 0 (omega arith) in
     let lx : length (Z ++ E) ≡ length Z + length E = length-append Z E in
-    ap (λ (x : ℕ). over (over (over m 0 H) 10 (replicate x 0)) (64 + 48 * k) E) d
-    ∙ over-over (over m 0 H) Z E 10 (64 + 48 * k) (omega arith) (omega arith)
-    ∙ over-over m H (Z ++ E) 0 10 refl (omega arith)
+    ap (λ (x : ℕ). over (over (over m 0 H) 14 (replicate x 0)) (64 + 48 * k) E) d
+    ∙ over-over (over m 0 H) Z E 14 (64 + 48 * k) (omega arith) (omega arith)
+    ∙ over-over m H (Z ++ E) 0 14 refl (omega arith)
     ∙ ap (over m 0) (sym (image-fresh k n plan e))
 
 -- octets laid over the front of a memory
@@ -155,6 +155,7 @@ opens-good k plan octets t =
     let f : total reserved (planned plan) ≤ k = o .fits in
     is-good (fresh k plan)
     (record {
+      settings = refl;
       k-low = o .k-low;
       k-high = o .k-high;
       s-low = o .s-low;

@@ -1,12 +1,20 @@
 // Opening a table in lent memory: every test first, then the head, the places, all unused, and the stations. Any numbers, any plan, any memory.
+use layout::HEAD_SIZE;
+use layout::MARK;
+use layout::MOST_PLACES;
+use layout::MOST_STATIONS;
+use layout::PLACE_SIZE;
+use layout::SPARE_OFFSET;
+use layout::STATION_SIZE;
 use limits::outcome::Outcome;
 ghost use mathlib.Core.Path.{_≡_};
 ghost use Prim.Native.Nat.{_+_, _*_, _≤_, _<_};
 ghost use lib.ListN.{length, getD};
 ghost use Rattle.limits.specs.Test.{total};
 ghost use Rattle.octets.specs.Over.{over};
+ghost use Rattle.layout.specs.Layout.{stationSize, mostStations};
 ghost use Rattle.table.specs.Table.{numbersOk, planOk, reserved, eight, entries, image};
-ghost use Rattle.registry.specs.Opening.{planned, validPlan, opens, fresh, openOutcome, openedMemory};
+ghost use Rattle.registry.specs.Opening.{planned, validPlan, tableOctets, opens, fresh, openOutcome, openedMemory};
 ghost use Rattle.opening.specs.Head.{headStart};
 
 // ---- a plan as it is lent: CA, reservation and ceiling of each station in turn
@@ -51,7 +59,7 @@ fn stations_ok(plan: &[u16], k: usize, n: usize) -> bool
 
 // The reservations of n stations, added up.
 fn reservations(plan: &[u16], n: usize) -> usize
-    requires { ⌜ (length (now plan) ≡ 3 * n) × (n ≤ 64) ⌝ }
+    requires { ⌜ (length (now plan) ≡ 3 * n) × (n ≤ mostStations) ⌝ }
     ensures { λ r. ⌜ r ≡ total reserved (planned (now (plan .entry))) ⌝ }
 {
     let mut at = 0;
@@ -73,13 +81,13 @@ fn plan_ok(plan: &[u16], k: usize, n: usize) -> bool
     if k < 1 {
         return false;
     }
-    if 4096 < k {
+    if MOST_PLACES < k {
         return false;
     }
     if n < 1 {
         return false;
     }
-    if 64 < n {
+    if MOST_STATIONS < n {
         return false;
     }
     if !stations_ok(plan, k, n) {
@@ -99,32 +107,36 @@ pub fn may_open(plan: &[u16], k: usize, octets: usize) -> bool
     if !plan_ok(plan, k, n) {
         return false;
     }
-    48 * k + 8 * n + 64 <= octets
+    PLACE_SIZE * k + STATION_SIZE * n + HEAD_SIZE <= octets
 }
 
 // ---- the octets of a fresh table
 
-// The first ten octets of the head: mark, K, stations, and no points.
-fn head_start(k: usize, n: usize) -> [u8; 10]
+// The octets of the head before those that are always zero: the mark, K, stations, no points, document 01's settings.
+fn head_start(k: usize, n: usize) -> [u8; SPARE_OFFSET]
     requires { ⌜ (k < 65536) × (n < 65536) ⌝ }
     ensures { λ r. ⌜ r ≡ headStart k n ⌝ }
 {
     [
-        75,
-        72,
-        86,
-        1,
+        (MARK % 256) as u8,
+        (MARK / 256 % 256) as u8,
+        (MARK / 65536 % 256) as u8,
+        (MARK / 16777216) as u8,
         (k % 256) as u8,
         (k / 256) as u8,
         (n % 256) as u8,
         (n / 256) as u8,
         0,
         0,
+        0,
+        0,
+        0,
+        0,
     ]
 }
 
 // A station's eight octets, nothing held.
-fn station_octets(ca: usize, r: usize, c: usize) -> [u8; 8]
+fn station_octets(ca: usize, r: usize, c: usize) -> [u8; STATION_SIZE]
     requires { ⌜ (ca < 65536) × (r < 65536) × (c < 65536) ⌝ }
     ensures { λ o. ⌜ o ≡ eight ca r c 0 ⌝ }
 {
@@ -142,7 +154,7 @@ fn station_octets(ca: usize, r: usize, c: usize) -> [u8; 8]
 
 // Writes the station whose three numbers start at `from`.
 fn put_station(table: &mut [u8], at: usize, plan: &[u16], from: usize)
-    requires { ⌜ (from + 3 ≤ length (now plan)) × (at + 8 ≤ length (now table)) ⌝ }
+    requires { ⌜ (from + 3 ≤ length (now plan)) × (at + stationSize ≤ length (now table)) ⌝ }
     ensures { λ _. ⌜ now (table .exit) ≡ over (now (table .entry)) at (eight (getD (now (plan .entry)) from 0) (getD (now (plan .entry)) (from + 1) 0) (getD (now (plan .entry)) (from + 2) 0) 0) ⌝ }
 {
     let ca = number_at(plan, from);
@@ -154,7 +166,7 @@ fn put_station(table: &mut [u8], at: usize, plan: &[u16], from: usize)
 
 // Writes the n stations of the plan.
 fn put_stations(table: &mut [u8], at: usize, plan: &[u16], n: usize)
-    requires { ⌜ (length (now plan) ≡ 3 * n) × (at + 8 * n ≤ length (now table)) ⌝ }
+    requires { ⌜ (length (now plan) ≡ 3 * n) × (at + stationSize * n ≤ length (now table)) ⌝ }
     ensures { λ _. ⌜ now (table .exit) ≡ over (now (table .entry)) at (entries (planned (now (plan .entry)))) ⌝ }
 {
     let mut to = at;
@@ -162,7 +174,7 @@ fn put_stations(table: &mut [u8], at: usize, plan: &[u16], n: usize)
     let mut left = n;
     while 0 < left {
         put_station(table, to, plan, from);
-        to += 8;
+        to += STATION_SIZE;
         from += 3;
         left -= 1;
     }
@@ -170,13 +182,13 @@ fn put_stations(table: &mut [u8], at: usize, plan: &[u16], n: usize)
 
 // Writes the fresh table of a plan of n stations.
 fn put_fresh(table: &mut [u8], k: usize, plan: &[u16], n: usize)
-    requires { ⌜ (length (now plan) ≡ 3 * n) × (k < 65536) × (n < 65536) × (48 * k + 8 * n + 64 ≤ length (now table)) ⌝ }
+    requires { ⌜ (length (now plan) ≡ 3 * n) × (k < 65536) × (n < 65536) × (tableOctets k n ≤ length (now table)) ⌝ }
     ensures { λ _. ⌜ now (table .exit) ≡ over (now (table .entry)) 0 (image (fresh k (now (plan .entry)))) ⌝ }
 {
-    let stations = 64 + 48 * k;
+    let stations = HEAD_SIZE + PLACE_SIZE * k;
     let start = head_start(k, n);
     octets::copy_in(&start, table, 0);
-    octets::clear(table, 10, stations);
+    octets::clear(table, SPARE_OFFSET, stations);
     put_stations(table, stations, plan, n);
 }
 

@@ -14,18 +14,15 @@ use Rattle.model.specs.declared.Point.{Point}
 use Rattle.model.specs.Place.{pointAt}
 use Rattle.table.specs.Memory.{pointsAt, stationsAt, sumAt, heldAt, tableOf, wellFormed}
 use Rattle.table.proofs.Parse.{Passed, passed}
-use Rattle.report.specs.declared.Selection.{Selection}
-use Rattle.report.specs.Packing.{selected, joined}
-use Rattle.report.specs.Selection.{selects}
-use Rattle.report.specs.Report.{report}
+use Rattle.report.specs.declared.Reach.{Reach}
+use Rattle.report.specs.Packing.{joined}
 use Rattle.report.specs.Order.{byAddress, pointsOf, ownPoints, allPoints, pointsFor}
 use Rattle.report.proofs.Order.{points-own}
 use Rattle.seats.specs.declared.Seat.{Seat}
 use Rattle.seats.specs.declared.Seat.the-variants.{Here, NotPlanned}
 use Rattle.seats.specs.Seats.{seatAt}
 use Rattle.seats.proofs.Laws.{Seen, seat-law, absent-law}
-use Rattle.output.specs.declared.reach.Reach.{Reach}
-use Rattle.output.specs.Data.{arranged, dataOf, dataFor}
+use Rattle.output.specs.Data.{arranged}
 use Rattle.output.specs.Reach.{seatReach, reachOf}
 
 -- ---- the points of all stations
@@ -104,11 +101,3 @@ reached m ca o w = by-address (eqb ca globalAddress) refl
     by-address false e =
         let r = own-places m ca o w (seatAt m ca) refl in
         record { lies = r .lies; few = r .few; points = r .points ∙ sym (points-own ca (tableOf m .stations) (λ q. eqb-false ca globalAddress e q)) }
-
--- what is written of the places that a CA reaches is what the CA asks for
-pub data-is : (limit : ℕ) (types : List ℕ) (cause ca : ℕ) (s : Selection) (m : List ℕ) (r : Reach) → r ≡ reachOf m ca → Octets m → wellFormed m ≡ true
-    → dataOf limit types cause ca s (r .every) m (r .base) (r .n) ≡ dataFor limit types cause ca s (tableOf m .stations)
-unfolding dataOf dataFor
-data-is limit types cause ca s m r e o w =
-    ap (λ (x : Reach). report limit types cause ca (selected (selects s) (arranged (x .every) (pointsAt m (x .base) (x .n))))) e
-    ∙ ap (λ (ps : List Point). report limit types cause ca (selected (selects s) ps)) (reached m ca o w .points)

@@ -1,15 +1,18 @@
 // The data of an interrogation or counter command: sized first, then written between what stands before and after it.
 use crate::order;
-use crate::reach;
 use chains::link;
+use chains::link::SLOTS;
 use chains::write;
+use layout::MOST_PLACES;
+use report::Reach;
 use report::Selection;
-ghost use mathlib.Core.Path.{_≡_};
-ghost use mathlib.Core.Bool.{true};
-ghost use Prim.Native.Nat.{_+_, _*_, _≤_, _<_};
-ghost use lib.ListN.{length, replicate};
-ghost use Rattle.table.specs.Memory.{wellFormed, tableOf};
-ghost use Rattle.output.specs.Data.{Slots, dataOf, dataFor, wrote, written};
+use report::Terms;
+ghost use Prim.Native.Nat.{_≤_};
+ghost use lib.ListN.{length};
+ghost use Rattle.asdu.specs.Header.{wire};
+ghost use Rattle.report.specs.Terms.{PlacesIn, LimitOk, TermsOk};
+ghost use Rattle.chains.specs.Chain.{slots, Fresh};
+ghost use Rattle.output.specs.Data.{TypesOk, dataOf, SizedBy, Writes};
 
 // What the writer answers: how many octets the data have, or that there is no room for them.
 pub enum Written {
@@ -17,121 +20,65 @@ pub enum Written {
     Short,
 }
 
-// The same with the memory to work in lent by the caller.
-fn put_with(
-    out: &mut [u8],
-    before: usize,
-    after: usize,
+// Sizes a report: links the selected places of a reach, in the order of an answer, into chains in memory lent by the caller, and gives its octets.
+pub fn size_report(
     m: &[u8],
-    base: usize,
-    n: usize,
-    every: bool,
+    reach: Reach,
     s: Selection,
     limit: usize,
     types: &[u8],
-    cause: u8,
-    ca: u16,
-    places: &mut [u16],
     heads: &mut [u16],
     next: &mut [u16],
     counts: &mut [u16],
-) -> Written
-    requires { ⌜ (before ≤ 65536) × (after ≤ 65536) × (base + 48 * n ≤ length (now m)) × (n ≤ 4096) × (25 ≤ limit) × (limit ≤ 253) × (length (now types) ≤ 64) × Slots (now types) × (cause < 64) × (n ≤ length (now places)) × (64 ≤ length (now heads)) × (n ≤ length (now next)) × (now counts ≡ replicate 64 0) ⌝ }
-    ensures { λ r. ⌜ (r ≡ wrote (length (now (out .entry))) before after (dataOf limit (now (types .entry)) cause ca s every (now (m .entry)) base n)) × (now (out .exit) ≡ written (now (out .entry)) before after (dataOf limit (now (types .entry)) cause ca s every (now (m .entry)) base n)) ⌝ }
+) -> usize
+    requires { ⌜ PlacesIn (now m) reach × LimitOk limit × (length (now types) ≤ slots) × Fresh reach (now heads) (now next) (now counts) ⌝ }
+    ensures { λ r. ⌜ SizedBy s limit (now (types .entry)) (now (m .entry)) reach (now (heads .entry)) (now (next .entry)) r (now (heads .exit)) (now (next .exit)) (now (counts .exit)) ⌝ }
 {
-    order::arrange(places, m, base, n, every);
-    link::link(m, base, places, n, s, heads, next, counts);
-    let octets = write::report_octets(limit, types, counts);
-    if out.len() < before + (octets + after) {
-        return Written::Short;
-    }
-    write::put_report(
-        out,
-        before,
-        limit,
-        types,
-        cause,
-        ca,
-        m,
-        base,
-        n,
-        heads,
-        next,
-        counts,
-    );
-    Written::Octets(octets)
+    let mut places: [u16; MOST_PLACES] = [0; MOST_PLACES];
+    order::arrange(&mut places, m, reach);
+    link::link(m, reach, &places, s, heads, next, counts);
+    write::report_octets(limit, types, counts)
 }
 
-// Writes the data of the n places from `base` into `out` from `before`, if `after` octets fit behind them too; else nothing is written.
+// The data of a reach: the report of its selected places, written into `out` after `before` octets if `after` more fit behind it, and not at all if not.
 pub fn put_data(
     out: &mut [u8],
     before: usize,
     after: usize,
     m: &[u8],
-    base: usize,
-    n: usize,
-    every: bool,
+    reach: Reach,
     s: Selection,
-    limit: usize,
     types: &[u8],
-    cause: u8,
-    ca: u16,
+    terms: Terms,
 ) -> Written
-    requires { ⌜ (before ≤ 65536) × (after ≤ 65536) × (base + 48 * n ≤ length (now m)) × (n ≤ 4096) × (25 ≤ limit) × (limit ≤ 253) × (length (now types) ≤ 64) × Slots (now types) × (cause < 64) ⌝ }
-    ensures { λ r. ⌜ (r ≡ wrote (length (now (out .entry))) before after (dataOf limit (now (types .entry)) cause ca s every (now (m .entry)) base n)) × (now (out .exit) ≡ written (now (out .entry)) before after (dataOf limit (now (types .entry)) cause ca s every (now (m .entry)) base n)) ⌝ }
+    requires { ⌜ (before ≤ 65536) × (after ≤ 65536) × PlacesIn (now m) reach × TypesOk (now types) × TermsOk terms ⌝ }
+    ensures { λ r. ⌜ Writes before after (wire (dataOf terms (now (types .entry)) s (now (m .entry)) reach)) (now (out .entry)) r (now (out .exit)) ⌝ }
 {
-    let mut places: [u16; 4096] = [0; 4096];
-    let mut heads: [u16; 64] = [0; 64];
-    let mut next: [u16; 4096] = [0; 4096];
-    let mut counts: [u16; 64] = [0; 64];
-    put_with(
-        out,
-        before,
-        after,
+    let mut heads: [u16; SLOTS] = [0; SLOTS];
+    let mut next: [u16; MOST_PLACES] = [0; MOST_PLACES];
+    let mut counts: [u16; SLOTS] = [0; SLOTS];
+    let octets = size_report(
         m,
-        base,
-        n,
-        every,
+        reach,
         s,
-        limit,
+        terms.limit,
         types,
-        cause,
-        ca,
-        &mut places,
         &mut heads,
         &mut next,
         &mut counts,
-    )
-}
-
-// The same of a common address: the selected points that it speaks of in a well-formed table. The Rust's `interrogation_data_asdus`.
-pub fn put_interrogation_data(
-    out: &mut [u8],
-    before: usize,
-    after: usize,
-    m: &[u8],
-    s: Selection,
-    limit: usize,
-    types: &[u8],
-    cause: u8,
-    ca: u16,
-) -> Written
-    requires { ⌜ (wellFormed (now m) ≡ true) × (before ≤ 65536) × (after ≤ 65536) × (25 ≤ limit) × (limit ≤ 253) × (length (now types) ≤ 64) × Slots (now types) × (cause < 64) ⌝ }
-    ensures { λ r. ⌜ (r ≡ wrote (length (now (out .entry))) before after (dataFor limit (now (types .entry)) cause ca s (tableOf (now (m .entry)) .stations))) × (now (out .exit) ≡ written (now (out .entry)) before after (dataFor limit (now (types .entry)) cause ca s (tableOf (now (m .entry)) .stations))) ⌝ }
-{
-    let r = reach::reach_of(m, ca);
-    put_data(
-        out,
-        before,
-        after,
-        m,
-        r.base,
-        r.n,
-        r.every,
-        s,
-        limit,
+    );
+    if out.len() < before + (octets + after) {
+        return Written::Short;
+    }
+    write::put_report(
+        &mut out[before..],
+        terms,
         types,
-        cause,
-        ca,
-    )
+        m,
+        reach,
+        &heads,
+        &next,
+        &counts,
+    );
+    Written::Octets(octets)
 }

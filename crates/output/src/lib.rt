@@ -3,4 +3,3 @@ pub mod data;
 pub mod order;
 pub mod reach;
 pub mod single;
-pub mod types;

@@ -1,19 +1,14 @@
 // The places that a common address speaks of: a station's, or under 65,535 those of every station.
 use asdu::header::GLOBAL_COMMON_ADDRESS;
+use layout::HEAD_SIZE;
 use octets::wide16;
+use report::Reach;
 use seats::Seat;
 ghost use mathlib.Core.Path.{_≡_};
-ghost use Prim.Native.Nat.{_+_, _*_, _≤_};
+ghost use Prim.Native.Nat.{_≤_};
 ghost use lib.ListN.{length};
-ghost use Rattle.octets.specs.Number.{two};
+ghost use Rattle.layout.specs.Layout.{mostStations, stationsIn, sizeIn};
 ghost use Rattle.output.specs.Reach.{seatReach, reachOf};
-
-// The n places from `base`; every station's, or one station's own.
-pub struct Reach {
-    pub base: usize,
-    pub n: usize,
-    pub every: bool,
-}
 
 // A station's own places; none where the plan has no such station.
 fn seat_reach(seat: Seat) -> Reach
@@ -26,7 +21,7 @@ fn seat_reach(seat: Seat) -> Reach
             every: false,
         },
         Seat::NotPlanned => Reach {
-            base: 64,
+            base: HEAD_SIZE,
             n: 0,
             every: false,
         },
@@ -35,13 +30,13 @@ fn seat_reach(seat: Seat) -> Reach
 
 // The places that a common address speaks of.
 pub fn reach_of(m: &[u8], ca: u16) -> Reach
-    requires { ⌜ (two (now m) 6 ≤ 64) × (64 + 48 * two (now m) 4 + 8 * two (now m) 6 ≤ length (now m)) ⌝ }
+    requires { ⌜ (stationsIn (now m) ≤ mostStations) × (sizeIn (now m) ≤ length (now m)) ⌝ }
     ensures { λ r. ⌜ r ≡ reachOf (now (m .entry)) ca ⌝ }
 {
     if ca == GLOBAL_COMMON_ADDRESS {
         return Reach {
-            base: 64,
-            n: octets::two_at(m, 8),
+            base: HEAD_SIZE,
+            n: layout::points_of(m),
             every: true,
         };
     }

@@ -6,19 +6,18 @@ use Rattle.model.specs.declared.Request.{Request}
 use Rattle.table.specs.Table.{Table}
 use Rattle.registry.specs.declared.Reply.{Reply}
 use Rattle.registry.specs.Effect.{Effect, replyOn, memoryOn}
+use Rattle.replies.specs.Replies.{Replies}
 use Rattle.registry.specs.Registry.{registeringAll}
 use Rattle.records.specs.Records.{requestsIn}
-use Rattle.points.specs.Points.{recordsOf, whole}
+use Rattle.points.specs.Points.{flatRecords, whole}
 use Rattle.points.proofs.Records.{records-law}
 
 -- The batch of a slice of points is the batch of their records.
-pub same-batch : (ps : List Request) → registeringAll (map whole ps) ≡ registeringAll (requestsIn (recordsOf ps))
+pub same-batch : (ps : List Request) → registeringAll (map whole ps) ≡ registeringAll (requestsIn (flatRecords ps))
 same-batch ps = ap registeringAll (sym (records-law ps))
 
 -- What meets the one contract meets the other: a slice of points is answered as its flat records are.
 pub slice-as-flat : (ps : List Request) (m : List ℕ) (x y : Reply) (m′ m″ : List ℕ)
-    → (x ≡ replyOn (registeringAll (map whole ps)) m) × (m′ ≡ memoryOn (registeringAll (map whole ps)) m)
-    → (y ≡ replyOn (registeringAll (requestsIn (recordsOf ps))) m) × (m″ ≡ memoryOn (registeringAll (requestsIn (recordsOf ps))) m)
-    → (x ≡ y) × (m′ ≡ m″)
+    → Replies (registeringAll (map whole ps)) m x m′ → Replies (registeringAll (requestsIn (flatRecords ps))) m y m″ → (x ≡ y) × (m′ ≡ m″)
 slice-as-flat ps m x y m′ m″ a b =
     (a .0 ∙ ap (λ (f : Table → Effect). replyOn f m) (same-batch ps) ∙ sym (b .0), a .1 ∙ ap (λ (f : Table → Effect). memoryOn f m) (same-batch ps) ∙ sym (b .1))

@@ -2,13 +2,12 @@
 use mathlib.Core.Path.{_≡_, refl, sym, ap, subst, _∙_}
 use mathlib.Core.List.{List, [], _∷_, _++_, map, append-nil}
 use mathlib.Core.Bool.{Bool, true, false, not}
-use mathlib.Core.Option.{Option, none, some}
-use Prim.Native.Nat.{ℕ, zero, suc, _+_, _*_, _^_, _≤_, _<_}
+use Prim.Native.Nat.{ℕ, suc, _+_, _*_, _^_, _≤_, _<_}
 use native.Mathlib.Omega.{arith}
-use lib.ListN.{length, take, drop, length-append, take-append-drop, length-drop}
+use lib.ListN.{length, take, drop, take-append-drop}
 use lib.Seq.{take-all, length-take-le}
-use lib.Dec.{ltb, eqb, leb}
-use borrow.Author.Tests.{lt-ltb, le-ltb, ltb-true, ltb-false, ne-eqb, eqb-true}
+use lib.Dec.{ltb, eqb}
+use borrow.Author.Tests.{lt-ltb, le-ltb, ltb-true, ltb-false, ne-eqb}
 use Rattle.limits.specs.Test.{_&_, pick}
 use Rattle.limits.specs.Outcome.{numberOf, isDone}
 use Rattle.limits.specs.declared.outcome.Outcome.{Outcome}
@@ -18,7 +17,7 @@ use Rattle.octets.specs.Number.{Octets}
 use Rattle.model.specs.declared.Request.{Request}
 use Rattle.model.specs.Request.{ownFault}
 use Rattle.table.specs.Table.{Table}
-use Rattle.table.specs.Memory.{wellFormed, tableOf, parse}
+use Rattle.table.specs.Memory.{wellFormed, tableOf}
 use Rattle.table.specs.Change.{stationOf}
 use Rattle.table.proofs.Parse.{Good, holds, parse-some, parse-none}
 use Rattle.registry.specs.declared.Reply.{Reply}
@@ -26,9 +25,9 @@ use Rattle.registry.specs.Effect.{Effect, firstFault, holding, replyFrom, memor
 use Rattle.registry.specs.History.{AllTwelve}
 use Rattle.registry.specs.Registry.{isPlanned, isRegistered, standsIn, batchFault, ownTests, roomTests, registeringAll}
 use Rattle.registry.proofs.Batches.{own-tests-ready}
-use Rattle.points.specs.Points.{whole, batchOf}
+use Rattle.points.specs.Points.{whole}
 use Rattle.among.specs.declared.Search.{Search}
-use Rattle.among.specs.Fold.{searching, folded as lookedThrough}
+use Rattle.among.specs.Fold.{folded as lookedThrough}
 use Rattle.among.proofs.Found.{found-law}
 use Rattle.point_lists.specs.Later.{withTwice, laterFault, startOf, searchFor, passed, judged, answerOf}
 use Rattle.point_lists.specs.Fold.{Both, stepped, folded}

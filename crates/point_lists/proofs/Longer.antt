@@ -3,12 +3,12 @@
 use mathlib.Core.Path.{_≡_, refl, sym, ap, _∙_}
 use mathlib.Core.List.{List, [], _∷_, _++_, map}
 use mathlib.Core.Bool.{Bool, true, false}
-use mathlib.Core.Option.{Option, none, some}
+use mathlib.Core.Option.{Option, some}
 use Prim.Native.Nat.{ℕ, suc, _+_, _≤_, _<_}
 use native.Mathlib.Omega.{arith}
 use lib.ListN.{length}
 use lib.Dec.{ltb, leb}
-use borrow.Author.Tests.{lt-ltb, ltb-true}
+use borrow.Author.Tests.{ltb-true}
 use Rattle.limits.specs.Test.{_&_, pick, total}
 use Rattle.limits.specs.Size.{pointOctets}
 use Rattle.limits.specs.Outcome.{numberOf, isDone}
@@ -30,9 +30,9 @@ use Rattle.table.proofs.Cut.{total-at}
 use Rattle.registry.specs.declared.Reply.{Reply}
 use Rattle.registry.specs.Effect.{Effect, refused, firstFault}
 use Rattle.registry.specs.History.{AllTwelve}
-use Rattle.registry.specs.Registry.{isPlanned, admissionOutcome, roomFault, registeredFault, isRegistered, withRequest, standsIn, batchFault, ownTests, roomTests, registeringAll}
+use Rattle.registry.specs.Registry.{isPlanned, admissionOutcome, roomFault, isRegistered, withRequest, standsIn, batchFault, ownTests, roomTests, registeringAll}
 use Rattle.registry.proofs.Requests.{accepted-good, planned-is}
-use Rattle.registry.proofs.Batches.{Passes, Ready, ready-more, ready-none, ready-after, own-tests-ready, passes-accepted}
+use Rattle.registry.proofs.Batches.{Ready, ready-more, ready-after, passes-accepted}
 
 -- ---- own tests
 

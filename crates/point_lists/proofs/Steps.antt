@@ -1,13 +1,13 @@
 -- What the calls of the two entries that hold a slice of point records come to. Lists and records alone, nothing of the code. Assumes nothing.
-use mathlib.Core.Path.{_≡_, refl, sym, ap, _∙_}
+use mathlib.Core.Path.{_≡_, ap, _∙_}
 use mathlib.Core.List.{List, map}
 use Prim.Native.Nat.{ℕ}
 use Rattle.octets.specs.Number.{Octets}
 use Rattle.model.specs.declared.Request.{Request}
 use Rattle.registry.specs.declared.Reply.{Reply}
-use Rattle.registry.specs.Effect.{replyOn, memoryOn}
+use Rattle.replies.specs.Replies.{Replies}
 use Rattle.registry.specs.Registry.{registeringAll}
-use Rattle.points.specs.Points.{whole, batchOf}
+use Rattle.points.specs.Points.{whole, decidingOctets, batchOf}
 use Rattle.among.specs.declared.Search.{Search}
 use Rattle.among.specs.Fold.{folded as lookedThrough}
 use Rattle.among.proofs.Found.{same-memory}
@@ -42,7 +42,7 @@ abbrev pub AllTested : List ℕ → List Request → Later → Later → List �
 AllTested ts ps s l zs = (l ≡ folded ps ts s ps .state) × (zs ≡ folded ps ts s ps .memory)
 
 abbrev pub FirstDone : List ℕ → List Request → Reply → List ℕ → Type 0
-FirstDone zs ps a ts′ = (a ≡ replyOn (registeringAll (batchOf 98328 ps)) zs) × (ts′ ≡ memoryOn (registeringAll (batchOf 98328 ps)) zs)
+FirstDone zs ps = Replies (registeringAll (batchOf decidingOctets ps)) zs
 
 abbrev pub Answers : List ℕ → List Request → Reply → List ℕ → Type 0
-Answers ts ps z ts′ = (z ≡ replyOn (registeringAll (map whole ps)) ts) × (ts′ ≡ memoryOn (registeringAll (map whole ps)) ts)
+Answers ts ps = Replies (registeringAll (map whole ps)) ts

@@ -1,4 +1,4 @@
--- The tests of the points that stand after the first 4,097 of a batch, as the code runs: nobody need believe these, `answer-law` says what they come to.
+-- The tests of the points that stand after the first of a batch, which decide on room, as the code runs: nobody need believe these, `answer-law` says what they come to.
 use Prim.Native.Nat.{ℕ, _+_}
 use mathlib.Core.Bool.{Bool, true, false, not}
 use mathlib.Core.List.{List, [], _∷_}
@@ -11,9 +11,13 @@ use Rattle.model.specs.declared.Request.{Request}
 use Rattle.table.specs.Memory.{wellFormed, tableOf}
 use Rattle.registry.specs.declared.Reply.{Reply}
 use Rattle.registry.specs.Registry.{ownTests}
-use Rattle.points.specs.Points.{whole}
+use Rattle.points.specs.Points.{whole, deciding}
 use Rattle.among.specs.declared.Search.{Search}
 use Rattle.point_lists.specs.declared.Later.{Later}
+
+-- more points than a slice can have
+abbrev pub many : ℕ
+many = 4611686018427387904
 
 -- a fault of a point alone, where its address may stand earlier: 16 comes after 11 to 15 and before 17
 unfoldable pub withTwice : Outcome → Bool → Outcome
@@ -29,19 +33,19 @@ startOf m = record { count = 0; outcome = Done; done = not (wellFormed m) }
 
 -- what is looked for before a point is tested
 unfoldable pub searchFor : Later → Request → Search
-searchFor s p = record { ca = p .ca; ioa = p .ioa; left = s .count; found = false; done = ltb (s .count) 4097 }
+searchFor s p = record { ca = p .ca; ioa = p .ioa; left = s .count; found = false; done = ltb (s .count) deciding }
 
 -- one point passed more
 unfoldable pub passed : Later → Later
 passed s =
-    pick (ltb (s .count) 4611686018427387904)
+    pick (ltb (s .count) many)
     (record { count = s .count + 1; outcome = Done; done = false })
     (record { count = s .count; outcome = Done; done = true })
 
 -- a point passes, or its fault is kept
 unfoldable pub judged : List ℕ → Later → Request → Search → Later
 judged m s p f =
-    pick (ltb (s .count) 4097) (passed s)
+    pick (ltb (s .count) deciding) (passed s)
     (pick (isDone (laterFault m p (f .found))) (passed s) (record { count = s .count; outcome = laterFault m p (f .found); done = true }))
 
 -- the reply for the first points, or the fault of a later one

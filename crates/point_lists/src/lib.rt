@@ -1,20 +1,18 @@
-// The registration of a batch given as a slice of point records of any length. No more than 4,096 points can be held, so the first 4,097 decide on room; but every point is tested before any is given room.
+// The registration of a batch given as a slice of point records of any length. No more points can be held than a table has places, so the first ones decide on room; but every point is tested before any is given room.
 use among::Search;
 use limits::outcome::Outcome;
 use model::Request;
+use points::DECIDING;
 use registry::Reply;
 ghost use mathlib.Core.Path.{_≡_};
 ghost use mathlib.Core.List.{map};
 ghost use mathlib.Core.Bool.{true};
 ghost use Rattle.octets.specs.Number.{Octets};
 ghost use Rattle.points.specs.Points.{whole};
-ghost use Rattle.registry.specs.Effect.{replyOn, memoryOn};
+ghost use Rattle.replies.specs.Replies.{Replies};
 ghost use Rattle.registry.specs.Registry.{registeringAll};
 ghost use Rattle.point_lists.specs.Later.{withTwice, laterFault, startOf, searchFor, passed, judged, answerOf};
 ghost use Rattle.point_lists.specs.Fold.{stepped, folded};
-
-// How many points decide on room: one more than a table can hold.
-const FIRST: usize = 4097;
 
 // More points than a slice can have.
 const MANY: usize = 4611686018427387904;
@@ -77,7 +75,7 @@ fn search_for(s: Later, p: Request) -> Search
         ioa: p.ioa,
         left: count,
         found: false,
-        done: count < FIRST,
+        done: count < DECIDING,
     }
 }
 
@@ -105,7 +103,7 @@ fn judge(m: &mut [u8], s: Later, p: Request, found: Search) -> Later
     ensures { λ r. ⌜ (r ≡ judged (now (m .entry)) s p found) × (now (m .exit) ≡ now (m .entry)) ⌝ }
 {
     let count = s.count;
-    if count < FIRST {
+    if count < DECIDING {
         return passed(s);
     }
     let fault = later_fault(m, p, found.found);
@@ -162,7 +160,7 @@ fn answer_of(later: Later, first: Reply) -> Reply
 
 // Registers a batch of point records: 3, then 11 to 17 of each in list order, then 19 and 20; all or none.
 pub fn register_points(table: &mut [u8], points: &[Request]) -> Reply
-    ensures { λ r. ⌜ (r ≡ replyOn (registeringAll (map whole (now (points .entry)))) (now (table .entry))) × (now (table .exit) ≡ memoryOn (registeringAll (map whole (now (points .entry)))) (now (table .entry))) ⌝ }
+    ensures { λ r. ⌜ Replies (registeringAll (map whole (now (points .entry)))) (now (table .entry)) r (now (table .exit)) ⌝ }
 {
     let begun = start(&mut *table);
     let later = later_tests(&mut *table, points, points, begun);

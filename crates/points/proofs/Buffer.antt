@@ -3,7 +3,7 @@
 --     lends-zeros      n zeros in a local  ⊢ ⇛ ∃ γ. own (the `&κ mut [u8]` on them) ∗ the lender's part
 --     zeros-back       [†κ] ∗ the lender's part ∗ finally γ zs  ⊢ ⇛ room for the array
 -- Assumes `Given`.
-use mathlib.Core.Path.{_≡_, refl, sym, subst}
+use mathlib.Core.Path.{refl, sym, subst}
 use Prim.Native.Nat.{ℕ}
 use mathlib.Core.List.{List, [], _∷_}
 use lib.Dec.{T as Holds}
@@ -16,7 +16,7 @@ use base.Logic.{ent, sep, ex, via, guardI}
 use base.Fml.{Lft, GName, fat, froom, fdead, flent}
 use prog.Wp.{Heap, Env}
 use ghost.Atoms.{Atoms, sem}
-use types.Kit.{Given, Item, ‵, _⊛_, some, later, _$_, _∵_, !, qed, move, use1, use2, use3, drop, split, pick, rewrite, fsplit, fjoin, feqL, feqI, await, updating, now as at-once, show, done}
+use types.Kit.{Given, Item, ‵, _⊛_, some, later, _$_, _∵_, !, qed, use1, use2, use3, split, pick, rewrite, fsplit, fjoin, feqL, feqI, await, updating, now as at-once, show, done}
 use types.Run.{Opd}
 use types.SemTy.{cells, Arr}
 use types.Share.{arr-parts}

@@ -3,12 +3,12 @@
 use mathlib.Core.Path.{_≡_, refl, sym, ap, subst, _∙_}
 use mathlib.Core.List.{List, [], _∷_, _++_, map, append-assoc, append-nil}
 use mathlib.Core.Bool.{Bool, true, false}
-use Prim.Native.Nat.{ℕ, zero, suc, _+_, _*_, _-_, _/_, _%_, _≤_, _<_, min}
+use Prim.Native.Nat.{ℕ, zero, suc, _+_, _*_, _-_, _/_, _%_, _≤_, _<_}
 use native.Mathlib.Omega.{arith}
 use native.Mathlib.Nat.{add-zero, add-assoc}
-use lib.ListN.{length, take, drop, getD, length-append, length-take}
+use lib.ListN.{length, take, drop, length-append}
 use lib.Seq.{getD-drop, drop-append-seam, take-all}
-use lib.Dec.{ltb, eqb}
+use lib.Dec.{ltb}
 use borrow.Author.Tests.{lt-ltb, le-ltb, ltb-true, ltb-false}
 use Rattle.octets.specs.Over.{over}
 use Rattle.octets.proofs.Laws.{length-over, take-over}
@@ -22,8 +22,9 @@ use Rattle.records.specs.Records.{requestsIn}
 use Rattle.registry.specs.declared.Reply.{Reply}
 use Rattle.registry.specs.Effect.{replyOn, memoryOn}
 use Rattle.registry.specs.Registry.{registeringAll}
-use Rattle.points.specs.Points.{hasOf, numberIn, recordOf, recordsOf, whole, batchOf}
+use Rattle.points.specs.Points.{hasOf, numberIn, flatRecord, flatRecords, whole, batchOf}
 use Rattle.points.specs.Fold.{Both, stepped, folded, noneTaken}
+use Rattle.points.specs.Entry.{laidDown, Registered, Answers}
 use Rattle.points.specs.declared.Taken.{Taken}
 
 -- ---- a record is read back
@@ -37,43 +38,43 @@ group-back None = refl
 group-back (Number g) = refl
 
 -- The record of a point is read back as the point.
-pub record-law : (q : Request) (Y : List ℕ) → requestAt (recordOf q ++ Y) 0 ≡ whole q
-unfolding recordOf
+pub record-law : (q : Request) (Y : List ℕ) → requestAt (flatRecord q ++ Y) 0 ≡ whole q
+unfolding flatRecord
 record-law q Y =
     let c : q .ca % 256 + 256 * (q .ca / 256) ≡ q .ca = omega arith in
     let i : q .ioa % 256 + 256 * (q .ioa / 256 % 256 + 256 * (q .ioa / 65536 % 256 + 256 * (q .ioa / 16777216))) ≡ q .ioa = omega arith in
     λ j. record { ca = c j; ioa = i j; kind = q .kind; group = group-back (q .group) j; counter = group-back (q .counter) j; value = whole q .value }
 
-length-record : (q : Request) → length (recordOf q) ≡ 24
-unfolding recordOf
+length-record : (q : Request) → length (flatRecord q) ≡ 24
+unfolding flatRecord
 length-record q = refl
 
-length-records : (qs : List Request) → length (recordsOf qs) ≡ 24 * length qs
-unfolding recordsOf
+length-records : (qs : List Request) → length (flatRecords qs) ≡ 24 * length qs
+unfolding flatRecords
 length-records [] = refl
 length-records (q ∷ qs) =
-    let e = length-append (recordOf q) (recordsOf qs) in
+    let e = length-append (flatRecord q) (flatRecords qs) in
     let r = length-record q in
     let s = length-records qs in
     omega arith
 
-from-there : (pre : List ℕ) (qs : List Request) → requestsAt (pre ++ recordsOf qs) (length pre) (length qs) ≡ map whole qs
-unfolding recordsOf requestsAt
+from-there : (pre : List ℕ) (qs : List Request) → requestsAt (pre ++ flatRecords qs) (length pre) (length qs) ≡ map whole qs
+unfolding flatRecords requestsAt
 from-there pre [] = refl
 from-there pre (q ∷ qs) =
-    let m = pre ++ (recordOf q ++ recordsOf qs) in
-    let here : requestAt m (length pre) ≡ whole q = request-drop m (length pre) ∙ ap (λ (l : List ℕ). requestAt l 0) (drop-append-seam pre (recordOf q ++ recordsOf qs)) ∙ record-law q (recordsOf qs) in
-    let e : length (pre ++ recordOf q) ≡ length pre + 24 = length-append pre (recordOf q) ∙ ap (λ (n : ℕ). length pre + n) (length-record q) in
+    let m = pre ++ (flatRecord q ++ flatRecords qs) in
+    let here : requestAt m (length pre) ≡ whole q = request-drop m (length pre) ∙ ap (λ (l : List ℕ). requestAt l 0) (drop-append-seam pre (flatRecord q ++ flatRecords qs)) ∙ record-law q (flatRecords qs) in
+    let e : length (pre ++ flatRecord q) ≡ length pre + 24 = length-append pre (flatRecord q) ∙ ap (λ (n : ℕ). length pre + n) (length-record q) in
     let next : requestsAt m (length pre + 24) (length qs) ≡ map whole qs =
-    ap (λ (n : ℕ). requestsAt m n (length qs)) (sym e) ∙ ap (λ (l : List ℕ). requestsAt l (length (pre ++ recordOf q)) (length qs)) (sym (append-assoc pre (recordOf q) (recordsOf qs))) ∙ from-there (pre ++ recordOf q) qs in
+    ap (λ (n : ℕ). requestsAt m n (length qs)) (sym e) ∙ ap (λ (l : List ℕ). requestsAt l (length (pre ++ flatRecord q)) (length qs)) (sym (append-assoc pre (flatRecord q) (flatRecords qs))) ∙ from-there (pre ++ flatRecord q) qs in
     ap (λ (z : Request). z ∷ requestsAt m (length pre + 24) (length qs)) here ∙ ap (λ (l : List Request). whole q ∷ l) next
 
 -- The requests of the records of a list of points are the points.
-pub records-law : (qs : List Request) → requestsIn (recordsOf qs) ≡ map whole qs
+pub records-law : (qs : List Request) → requestsIn (flatRecords qs) ≡ map whole qs
 records-law qs =
     let e = length-records qs in
-    let n : length (recordsOf qs) / 24 ≡ length qs = omega arith in
-    ap (λ (k : ℕ). requestsAt (recordsOf qs) 0 k) n ∙ from-there [] qs
+    let n : length (flatRecords qs) / 24 ≡ length qs = omega arith in
+    ap (λ (k : ℕ). requestsAt (flatRecords qs) 0 k) n ∙ from-there [] qs
 
 -- ---- what is laid down
 
@@ -82,7 +83,7 @@ pub record Laid (m : List ℕ) (k : ℕ) (ps : List Request) (b : Both) : Type 0
   pub count : b .state .count ≡ k + length (take (length m / 24 - k) ps)
   pub within : b .state .count ≤ length m / 24
   pub long : length (b .memory) ≡ length m
-  pub front : take (24 * b .state .count) (b .memory) ≡ take (24 * k) m ++ recordsOf (take (length m / 24 - k) ps)
+  pub front : take (24 * b .state .count) (b .memory) ≡ take (24 * k) m ++ flatRecords (take (length m / 24 - k) ps)
 
 take-none : (n : ℕ) → _≡_ {A = List Request} (take n []) []
 take-none zero = refl
@@ -98,7 +99,7 @@ ended k = record { count = k; done = true }
 abbrev both : List ℕ → Taken → Both
 both m s = record { memory = m; state = s }
 
-with-room : (m : List ℕ) (k : ℕ) (p : Request) → k < length m / 24 → stepped m (going k) p ≡ both (over m (24 * k) (recordOf p)) (going (k + 1))
+with-room : (m : List ℕ) (k : ℕ) (p : Request) → k < length m / 24 → stepped m (going k) p ≡ both (over m (24 * k) (flatRecord p)) (going (k + 1))
 unfolding stepped
 with-room m k p h = simp (lt-ltb _ _ h)
 
@@ -113,7 +114,7 @@ no-more m k (p ∷ ps) = refl
 
 -- nothing is laid down of the rest
 nothing-laid : (m : List ℕ) (k : ℕ) (ps : List Request) (d : Bool) → k ≤ length m / 24 → take (length m / 24 - k) ps ≡ [] → Laid m k ps (both m (record { count = k; done = d }))
-unfolding recordsOf
+unfolding flatRecords
 nothing-laid m k ps d h e =
     record {
       count = let z : k ≡ k + length (take (length m / 24 - k) ps) = rw e (omega arith) in z;
@@ -123,24 +124,24 @@ nothing-laid m k ps d h e =
     }
 
 -- one more is laid down, and then the rest
-one-laid : (m : List ℕ) (k : ℕ) (p : Request) (ps : List Request) (b : Both) → k < length m / 24 → Laid (over m (24 * k) (recordOf p)) (k + 1) ps b → Laid m k (p ∷ ps) b
-unfolding recordsOf
+one-laid : (m : List ℕ) (k : ℕ) (p : Request) (ps : List Request) (b : Both) → k < length m / 24 → Laid (over m (24 * k) (flatRecord p)) (k + 1) ps b → Laid m k (p ∷ ps) b
+unfolding flatRecords
 one-laid m k p ps b h l =
     let r = length-record p in
-    let fits : 24 * k + length (recordOf p) ≤ length m = omega arith in
-    let same : length (over m (24 * k) (recordOf p)) ≡ length m = length-over m (recordOf p) (24 * k) fits in
+    let fits : 24 * k + length (flatRecord p) ≤ length m = omega arith in
+    let same : length (over m (24 * k) (flatRecord p)) ≡ length m = length-over m (flatRecord p) (24 * k) fits in
     let j = length m / 24 - (k + 1) in
-    let left : length (over m (24 * k) (recordOf p)) / 24 - (k + 1) ≡ j = ap (λ (n : ℕ). n / 24 - (k + 1)) same in
+    let left : length (over m (24 * k) (flatRecord p)) / 24 - (k + 1) ≡ j = ap (λ (n : ℕ). n / 24 - (k + 1)) same in
     let more : length m / 24 - k ≡ suc j = omega arith in
     let taken : take (length m / 24 - k) (p ∷ ps) ≡ p ∷ take j ps = ap (λ (n : ℕ). take n (p ∷ ps)) more in
-    let at-end : 24 * (k + 1) ≡ 24 * k + length (recordOf p) = omega arith in
-    let front : take (24 * (k + 1)) (over m (24 * k) (recordOf p)) ≡ take (24 * k) m ++ recordOf p = ap (λ (n : ℕ). take n (over m (24 * k) (recordOf p))) at-end ∙ take-over m (recordOf p) (24 * k) fits in
+    let at-end : 24 * (k + 1) ≡ 24 * k + length (flatRecord p) = omega arith in
+    let front : take (24 * (k + 1)) (over m (24 * k) (flatRecord p)) ≡ take (24 * k) m ++ flatRecord p = ap (λ (n : ℕ). take n (over m (24 * k) (flatRecord p))) at-end ∙ take-over m (flatRecord p) (24 * k) fits in
     record {
       count = let c : b .state .count ≡ k + 1 + length (take j ps) = l .count ∙ ap (λ (n : ℕ). k + 1 + length (take n ps)) left in rw taken (omega arith);
       within = subst (λ (n : ℕ). b .state .count ≤ n / 24) same (l .within);
       long = l .long ∙ same;
-      front = l .front ∙ ap (λ (n : ℕ). take (24 * (k + 1)) (over m (24 * k) (recordOf p)) ++ recordsOf (take n ps)) left ∙ ap (λ (x : List ℕ). x ++ recordsOf (take j ps)) front
-          ∙ append-assoc (take (24 * k) m) (recordOf p) (recordsOf (take j ps)) ∙ ap (λ (x : List Request). take (24 * k) m ++ recordsOf x) (sym taken);
+      front = l .front ∙ ap (λ (n : ℕ). take (24 * (k + 1)) (over m (24 * k) (flatRecord p)) ++ flatRecords (take n ps)) left ∙ ap (λ (x : List ℕ). x ++ flatRecords (take j ps)) front
+          ∙ append-assoc (take (24 * k) m) (flatRecord p) (flatRecords (take j ps)) ∙ ap (λ (x : List Request). take (24 * k) m ++ flatRecords x) (sym taken);
     }
 
 -- the first of a list, by the room for it; the rest is had for any memory as long
@@ -149,9 +150,9 @@ first-laid : (m : List ℕ) (k : ℕ) (p : Request) (ps : List Request) → k �
 first-laid m k p ps h rest true e =
     let l : k < length m / 24 = ltb-true _ _ e in
     let r = length-record p in
-    let same : length (over m (24 * k) (recordOf p)) ≡ length m = length-over m (recordOf p) (24 * k) (omega arith) in
+    let same : length (over m (24 * k) (flatRecord p)) ≡ length m = length-over m (flatRecord p) (24 * k) (omega arith) in
     subst (λ (b : Both). Laid m k (p ∷ ps) (folded (b .memory) (b .state) ps)) (sym (with-room m k p l))
-    (one-laid m k p ps _ l (rest (over m (24 * k) (recordOf p)) (k + 1) (rw same (omega arith))))
+    (one-laid m k p ps _ l (rest (over m (24 * k) (flatRecord p)) (k + 1) (rw same (omega arith))))
 first-laid m k p ps h rest false e =
     let l : length m / 24 ≤ k = ltb-false _ _ e in
     let none : length m / 24 - k ≡ 0 = omega arith in
@@ -170,7 +171,7 @@ pub taken-law : (m : List ℕ) (ps : List Request) → (folded m noneTaken ps .s
 taken-law m ps =
     let l = laid ps m 0 (omega arith) in
     let z : length m / 24 - 0 ≡ length m / 24 = omega arith in
-    (l .within, ap requestsIn (l .front) ∙ ap (λ (n : ℕ). requestsIn (recordsOf (take n ps))) z ∙ records-law (take (length m / 24) ps), l .long)
+    (l .within, ap requestsIn (l .front) ∙ ap (λ (n : ℕ). requestsIn (flatRecords (take n ps))) z ∙ records-law (take (length m / 24) ps), l .long)
 
 -- A point record that has twelve octets of value, as its type says, is whole; so is a list of them, and where there is room for all the batch is the list.
 pub whole-is : (q : Request) → Twelve q → whole q ≡ q
@@ -187,17 +188,9 @@ batch-is room qs w h = ap (map whole) (take-all (room / 24) qs h) ∙ all-whole 
 
 -- ---- what the entry comes to
 
--- what taking out gives back and leaves, and what registering the records does
+-- what taking out gives back and leaves
 abbrev pub Took : List ℕ → List Request → Taken → Taken → List ℕ → Type 0
 Took ms ps s r zs = (r ≡ folded ms s ps .state) × (zs ≡ folded ms s ps .memory)
-
-abbrev pub Registered : List ℕ → List ℕ → Taken → Reply → List ℕ → List ℕ → Type 0
-Registered ts zs r p ts′ ms′ =
-    (p ≡ replyOn (registeringAll (requestsIn (take (24 * r .count) zs))) ts) × (ts′ ≡ memoryOn (registeringAll (requestsIn (take (24 * r .count) zs))) ts) × (ms′ ≡ zs)
-
-abbrev pub Answers : List ℕ → List Request → List ℕ → Reply → List ℕ → List ℕ → Type 0
-Answers ts ps ms p ts′ ms′ =
-    (p ≡ replyOn (registeringAll (batchOf (length ms) ps)) ts) × (ts′ ≡ memoryOn (registeringAll (batchOf (length ms) ps)) ts) × (ms′ ≡ folded ms noneTaken ps .memory)
 
 module _ (ms : List ℕ) (ps : List Request) (s r : Taken) (zs : List ℕ) (e : s ≡ noneTaken) (took : Took ms ps s r zs) where
   state-is : r ≡ folded ms noneTaken ps .state
@@ -214,10 +207,10 @@ module _ (ms : List ℕ) (ps : List Request) (s r : Taken) (zs : List ℕ) (e : 
       let c : r .count ≡ folded ms noneTaken ps .state .count = ap (λ (z : Taken). z .count) state-is in
       rw (n, c) (t .0)
 
-  batch-taken : requestsIn (take (24 * r .count) zs) ≡ batchOf (length ms) ps
+  batch-taken : laidDown r zs ≡ batchOf (length ms) ps
   batch-taken =
-      ap (λ (z : Taken). requestsIn (take (24 * z .count) zs)) state-is
-      ∙ ap (λ (l : List ℕ). requestsIn (take (24 * folded ms noneTaken ps .state .count) l)) memory-is ∙ taken-law ms ps .1
+      ap (λ (z : Taken). laidDown z zs) state-is
+      ∙ ap (laidDown (folded ms noneTaken ps .state)) memory-is ∙ taken-law ms ps .1
 
   -- the batch of what was taken out is registered
   pub answers : (ts : List ℕ) (p : Reply) (ts′ ms′ : List ℕ) → Registered ts zs r p ts′ ms′ → Answers ts ps ms p ts′ ms′

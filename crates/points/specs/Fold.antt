@@ -1,14 +1,15 @@
 -- A record laid down, and the records of a list laid down one after another, as the code runs: nobody need believe these, `taken-law` says what they come to.
-use Prim.Native.Nat.{ℕ, _+_, _*_, _/_}
+use Prim.Native.Nat.{ℕ, _+_, _*_}
 use mathlib.Core.Bool.{Bool, true, false}
 use mathlib.Core.List.{List, [], _∷_}
 use lib.Dec.{ltb}
-use lib.ListN.{length, getD}
+use lib.ListN.{getD}
 use Rattle.limits.specs.Test.{pick as choose}
 use Rattle.octets.specs.Over.{over}
 use Rattle.model.specs.declared.Request.{Request}
 use Rattle.model.specs.declared.Group.the-variants.{None}
-use Rattle.points.specs.Points.{recordOf}
+use Rattle.records.specs.Records.{recordOctets, recordsIn}
+use Rattle.points.specs.Points.{flatRecord}
 use Rattle.points.specs.declared.Taken.{Taken}
 
 -- a record that stands for none
@@ -29,8 +30,8 @@ pick = choose
 -- one record, if there is room
 unfoldable pub stepped : List ℕ → Taken → Request → Both
 stepped m s p =
-    pick (ltb (s .count) (length m / 24))
-    (record { memory = over m (24 * s .count) (recordOf p); state = record { count = s .count + 1; done = false } })
+    pick (ltb (s .count) (recordsIn m))
+    (record { memory = over m (recordOctets * s .count) (flatRecord p); state = record { count = s .count + 1; done = false } })
     (record { memory = m; state = record { count = s .count; done = true } })
 
 -- each record in turn, until there is no room

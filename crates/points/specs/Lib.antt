@@ -1,2 +1,3 @@
 pub mod Points
 pub mod Fold
+pub mod Entry

@@ -1,15 +1,17 @@
-// A batch as a slice of point records: each record is taken out of the slice and laid down as 24 octets, the flat form that the batch entry reads.
+// A batch as a slice of point records: each record is taken out of the slice and laid down as a flat record, the form that the batch entry reads.
+use layout::MOST_PLACES;
 use model::Group;
 use model::Request;
+use records::RECORD_OCTETS;
 use registry::Reply;
 ghost use mathlib.Core.Path.{_≡_};
-ghost use Prim.Native.Nat.{_*_, _/_, _≤_};
-ghost use lib.ListN.{length, take};
-ghost use Rattle.records.specs.Records.{requestsIn};
-ghost use Rattle.registry.specs.Effect.{replyOn, memoryOn};
+ghost use Prim.Native.Nat.{_≤_};
+ghost use Rattle.records.specs.Records.{recordsIn};
+ghost use Rattle.replies.specs.Replies.{Replies};
 ghost use Rattle.registry.specs.Registry.{registeringAll};
-ghost use Rattle.points.specs.Points.{hasOf, numberIn, recordOf, batchOf};
+ghost use Rattle.points.specs.Points.{hasOf, numberIn, flatRecord, decidingOctets, batchOf};
 ghost use Rattle.points.specs.Fold.{stepped, folded, noneTaken};
+ghost use Rattle.points.specs.Entry.{Registered, Answers};
 
 // How many records have been taken out, and whether there is no room for more.
 pub struct Taken {
@@ -37,9 +39,9 @@ fn number_in(group: Group) -> u8
     }
 }
 
-// The 24 octets of a point record.
-pub fn record_of(q: Request) -> [u8; 24]
-    ensures { λ r. ⌜ r ≡ recordOf q ⌝ }
+// The octets of a point record.
+pub fn record_of(q: Request) -> [u8; RECORD_OCTETS]
+    ensures { λ r. ⌜ r ≡ flatRecord q ⌝ }
 {
     let group = q.group;
     let counter = q.counter;
@@ -77,9 +79,9 @@ fn lay_down(m: &mut [u8], s: Taken, p: Request) -> Taken
     ensures { λ r. ⌜ (r ≡ stepped (now (m .entry)) s p .state) × (now (m .exit) ≡ stepped (now (m .entry)) s p .memory) ⌝ }
 {
     let count = s.count;
-    if count < m.len() / 24 {
+    if count < m.len() / RECORD_OCTETS {
         let octets = record_of(p);
-        octets::copy_in(&octets, m, 24 * count);
+        octets::copy_in(&octets, m, RECORD_OCTETS * count);
         return Taken {
             count: count + 1,
             done: false,
@@ -117,28 +119,31 @@ fn none_taken() -> Taken
 
 // Registers the records that were laid down.
 fn register_taken(table: &mut [u8], records: &mut [u8], taken: Taken) -> Reply
-    requires { ⌜ taken .count ≤ length (now records) / 24 ⌝ }
-    ensures { λ r. ⌜ (r ≡ replyOn (registeringAll (requestsIn (take (24 * taken .count) (now (records .entry))))) (now (table .entry))) × (now (table .exit) ≡ memoryOn (registeringAll (requestsIn (take (24 * taken .count) (now (records .entry))))) (now (table .entry))) × (now (records .exit) ≡ now (records .entry)) ⌝ }
+    requires { ⌜ taken .count ≤ recordsIn (now records) ⌝ }
+    ensures { λ r. ⌜ Registered (now (table .entry)) (now (records .entry)) taken r (now (table .exit)) (now (records .exit)) ⌝ }
 {
-    let end = 24 * taken.count;
+    let end = RECORD_OCTETS * taken.count;
     batch::register_points(table, &records[..end])
 }
 
 // Registers the batch of the point records that the memory lent for them has room for: 3, then 11 to 17 of each in list order, then 19 and 20; all or none.
 fn register_points_in(table: &mut [u8], points: &[Request], records: &mut [u8]) -> Reply
-    ensures { λ r. ⌜ (r ≡ replyOn (registeringAll (batchOf (length (now (records .entry))) (now (points .entry)))) (now (table .entry))) × (now (table .exit) ≡ memoryOn (registeringAll (batchOf (length (now (records .entry))) (now (points .entry)))) (now (table .entry))) × (now (records .exit) ≡ folded (now (records .entry)) noneTaken (now (points .entry)) .memory) ⌝ }
+    ensures { λ r. ⌜ Answers (now (table .entry)) (now (points .entry)) (now (records .entry)) r (now (table .exit)) (now (records .exit)) ⌝ }
 {
     let taken = take_out(&mut *records, points, none_taken());
     register_taken(table, records, taken)
 }
 
-// How many octets the records of the longest batch that can be registered take, and of one more: 24 × 4,097.
-const ROOM: usize = 98328;
+// How many points decide on room: one more than a table can hold.
+pub const DECIDING: usize = MOST_PLACES + 1;
 
-// Registers a batch of point records by its first 4,097: a longer one is refused in any case, and `point_lists` tests the points after them.
+// The octets of their records.
+const DECIDING_OCTETS: usize = RECORD_OCTETS * DECIDING;
+
+// Registers a batch of point records by the first that decide: a longer one is refused in any case, and `point_lists` tests the points after them.
 pub fn register_first(table: &mut [u8], points: &[Request]) -> Reply
-    ensures { λ r. ⌜ (r ≡ replyOn (registeringAll (batchOf 98328 (now (points .entry)))) (now (table .entry))) × (now (table .exit) ≡ memoryOn (registeringAll (batchOf 98328 (now (points .entry)))) (now (table .entry))) ⌝ }
+    ensures { λ r. ⌜ Replies (registeringAll (batchOf decidingOctets (now (points .entry)))) (now (table .entry)) r (now (table .exit)) ⌝ }
 {
-    let mut records = [0u8; ROOM];
+    let mut records = [0u8; DECIDING_OCTETS];
     register_points_in(table, points, &mut records)
 }

@@ -1,21 +1,21 @@
 -- The starred cases: the whole table is computed on the tables that the memories hold, and a law brings that to the entries' own contracts on memory.
 -- Assumes nothing.
-use Prim.Native.Nat.{ℕ, zero, suc, _+_}
-use mathlib.Core.Path.{_≡_, refl, sym, ap, _∙_}
-use mathlib.Core.List.{List, [], _∷_, _++_, map}
+use Prim.Native.Nat.{ℕ}
+use mathlib.Core.Path.{_≡_, refl, ap, _∙_, subst}
+use mathlib.Core.List.{List, [], _∷_, map}
 use mathlib.Core.Bool.{Bool, true, false}
 use mathlib.Core.Option.{Option, none, some}
-use native.Mathlib.Omega.{arith}
-use lib.ListN.{length, drop, replicate, length-replicate}
+use lib.ListN.{length, replicate, length-replicate}
 use lib.Dec.{eqb}
 use borrow.Author.Tests.{eqb-true}
 use Rattle.limits.specs.Test.{_&_, pick, total}
 use Rattle.limits.specs.Outcome.{numberOf, isDone}
-use Rattle.limits.specs.Size.{standardLimit, pointTypes, systemTypes, processTypes, endTypes, namedTypes, pointOctets, elementOctets, octetsIn, listed, classOf}
+use Rattle.limits.specs.Size.{pointTypes, systemTypes, processTypes, endTypes, namedTypes, pointOctets, elementOctets, octetsIn, listed, classOf}
 use Rattle.limits.proofs.Tests.{both}
 use Rattle.limits.proofs.Outcomes.{not-both}
-use Rattle.model.specs.Request.{requestAt, ownFault, pointOf, element}
+use Rattle.model.specs.Request.{ownFault, pointOf, element}
 use Rattle.table.specs.Table.{Table, planOk, numbersOk}
+use Rattle.table.specs.Settings.{limitOf}
 use Rattle.table.specs.Change.{stationOf, inStation, changed, seekIn, known, insertIn, removeIn, added, removed}
 use Rattle.table.specs.Memory.{parse}
 use Rattle.table.proofs.Parse.{Good, good-is, is-good}
@@ -23,25 +23,24 @@ use Rattle.asdu.specs.Command.{readAs}
 use Rattle.asdu.specs.Confirmation.{confirmation, reply}
 use Rattle.asdu.specs.Header.{header, object, asdu}
 use Rattle.report.specs.Packing.{selected, joined, flat, cut, chunks, Each}
-use Rattle.report.specs.Selection.{interrogationTypes, counterTypes}
+use Rattle.report.specs.Selection.{interrogationTypes, interrogationTypesOf, counterTypes}
 use Rattle.report.specs.Report.{objectOf, octetsOf, pieces, asdus, report}
 use Rattle.report.specs.Order.{pointsFor}
-use Rattle.registry.specs.Effect.{Effect, next, replyFrom, replyOn, memoryOn}
+use Rattle.registry.specs.Effect.{Effect, next, replyFrom}
 use Rattle.registry.specs.Registry.{isPlanned, isRegistered, roomFault, requestOutcome, registering, unregistering}
-use Rattle.registry.specs.Opening.{planned, tableOctets, validPlan, opens, fresh, openedMemory}
-use Rattle.registry.specs.History.Call.{register, unregister, command}
+use Rattle.registry.specs.Opening.{planned, tableOctets, validPlan, opens, fresh}
+use Rattle.registry.specs.History.Call.{command}
 use Rattle.registry.proofs.Effects.{parse-after}
 use Rattle.registry.proofs.Histories.{keeps}
 use Rattle.opening.proofs.Fresh.{opens-good, opened-parses, opens-done}
-use Rattle.answers.specs.Said.{Said, Lent, fronted, outcomeWith, answeredFrom, lentFrom, answeredOn, lentAfter}
-use Rattle.answers.specs.System.{systemSaid, systemFrom, isSilent, commandSaid, interrogationAnswer, counterAnswer, afterCounters, resetAt, resetIn, reported}
+use Rattle.answers.specs.Said.{Said, Lent, lent, fronted, outcomeWith, answeredFrom, lentFrom}
+use Rattle.answers.specs.System.{systemFrom, isSilent, commandSaid, interrogationAnswer, counterAnswer, afterCounters, resetBy, resetAt, resetIn, reported, answerTo}
 use Rattle.answers.proofs.Common.{effectIn, command-effect}
-use Rattle.answers.proofs.Quiet.{system-quiet}
-use Rattle.system_command_handler.specs.Handler.{lentTo as lentToSystem}
 use Rattle.khuvelter.specs.Interface.{placeReply, answerReply}
 use Rattle.khuvelter.specs.declared.Reply.{Reply}
-use Rattle.promises.specs.Calls.{Call, replyTo, leftBy}
-use Rattle.promises.specs.Calls.Call.{openTable, registerPoint, registerPoints, unregisterPoint, unregisterAll, connectionStarted, systemCommand, processCommand}
+use Rattle.khuvelter.specs.Calls.{Change, Question, Call, effectBy, saidBy, replyTo, leftBy}
+use Rattle.khuvelter.specs.Calls.Call.{openTable, change, ask}
+use Rattle.promises.proofs.Past.{registered, same-effect, quiet}
 use Rattle.promises.specs.Cases.{Line, Case, lentFor, Comes, memoryFor, Holds, many, objects, cases, AllCases}
 
 -- ---- a call on the table that a memory holds
@@ -59,16 +58,11 @@ abbrev answered : (Table → Said) → Lent → Table → Went
 answered f l t =
     record { reply = answerReply (answeredFrom f l (some t)); said = pick (isDone (outcomeWith (f t) l)) (f t .answer) []; after = next (effectIn f l) t }
 
--- The calls that the cases make, with this clock and this answer memory.
-unfoldable went : Call → List ℕ → List ℕ → Table → Option Went
-went (openTable k plan) clock answer t = none
-went (registerPoint q) clock answer t = some (effected (registering (requestAt q 0)) t)
-went (registerPoints qs) clock answer t = none
-went (unregisterPoint ca ioa) clock answer t = some (effected (unregistering ca ioa) t)
-went unregisterAll clock answer t = none
-went connectionStarted clock answer t = none
-went (systemCommand m) clock answer t = some (answered (systemSaid standardLimit clock m) (lentToSystem [] clock answer) t)
-went (processCommand m n k r us) clock answer t = none
+-- The calls that the cases make, with this clock, answer and spontaneous memory.
+unfoldable went : Call → List ℕ → List ℕ → List ℕ → Table → Option Went
+went (openTable k plan) clock answer spontaneous t = none
+went (change c) clock answer spontaneous t = some (effected (effectBy c) t)
+went (ask q) clock answer spontaneous t = some (answered (saidBy q clock) (lent [] clock answer spontaneous) t)
 
 -- The memory holds a good table.
 record Has (m : List ℕ) (t : Table) : Type 0 where
@@ -82,24 +76,14 @@ record Is (c : Call) (l : Lent) (w : Went) : Type 0 where
   left : Has (leftBy c l .table) (w .after)
 
 module _ (l : Lent) (t : Table) (h : Has (l .table) t) where
-  register-is : (q : List ℕ) → Is (registerPoint q) l (effected (registering (requestAt q 0)) t)
+  change-is : (c : Change) → Is (change c) l (effected (effectBy c) t)
   unfolding replyFrom
-  register-is q =
-      let g = keeps t (h .is-good) (register (requestAt q 0) refl) .is-good in
+  change-is c =
+      let g = subst (λ (f : Table → Effect). Good (next f t)) (same-effect c) (keeps t (h .is-good) (registered c) .is-good) in
       record {
-        replied = ap (λ (o : Option Table). placeReply (replyFrom (registering (requestAt q 0)) o)) (h .read);
+        replied = ap (λ (o : Option Table). placeReply (replyFrom (effectBy c) o)) (h .read);
         wrote = refl;
-        left = record { read = parse-after (registering (requestAt q 0)) (l .table) t (h .read) (is-good _ g); is-good = g };
-      }
-
-  unregister-is : (ca ioa : ℕ) → Is (unregisterPoint ca ioa) l (effected (unregistering ca ioa) t)
-  unfolding replyFrom
-  unregister-is ca ioa =
-      let g = keeps t (h .is-good) (unregister ca ioa) .is-good in
-      record {
-        replied = ap (λ (o : Option Table). placeReply (replyFrom (unregistering ca ioa) o)) (h .read);
-        wrote = refl;
-        left = record { read = parse-after (unregistering ca ioa) (l .table) t (h .read) (is-good _ g); is-good = g };
+        left = record { read = parse-after (effectBy c) (l .table) t (h .read) (is-good _ g); is-good = g };
       }
 
   said-front : (f : Table → Said) (l₁ : Lent) → lentFrom f l₁ (some t) .answer ≡ fronted (pick (isDone (outcomeWith (f t) l₁)) (f t .answer) []) (l₁ .answer)
@@ -110,19 +94,15 @@ module _ (l : Lent) (t : Table) (h : Has (l .table) t) where
       by-test true e = simp e
       by-test false e = simp e
 
-  system-is : (m : List ℕ) → Is (systemCommand m) l (answered (systemSaid standardLimit (l .clock) m) (lentToSystem [] (l .clock) (l .answer)) t)
+  question-is : (q : Question) → Is (ask q) l (answered (saidBy q (l .clock)) (lent [] (l .clock) (l .answer) (l .spontaneous)) t)
   unfolding answeredFrom outcomeWith effectIn
-  system-is m =
-      let f = systemSaid standardLimit (l .clock) m in
-      let l₁ = lentToSystem (l .table) (l .clock) (l .answer) in
-      let g = keeps t (h .is-good) (command (effectIn f l₁) (system-quiet standardLimit m l₁)) .is-good in
+  question-is q =
+      let f = saidBy q (l .clock) in
+      let g = keeps t (h .is-good) (command (effectIn f l) (quiet q l)) .is-good in
       record {
-        replied = ap (λ (o : Option Table). answerReply (answeredFrom f l₁ o)) (h .read);
-        wrote = ap (λ (o : Option Table). lentFrom f l₁ o .answer) (h .read) ∙ said-front f l₁;
-        left = record {
-          read = ap parse (command-effect f l₁ .0) ∙ parse-after (effectIn f l₁) (l .table) t (h .read) (is-good _ g);
-          is-good = g;
-        };
+        replied = ap (λ (o : Option Table). answerReply (answeredFrom f l o)) (h .read);
+        wrote = ap (λ (o : Option Table). lentFrom f l o .answer) (h .read) ∙ said-front f l;
+        left = record { read = ap parse (command-effect f l .0) ∙ parse-after (effectIn f l) (l .table) t (h .read) (is-good _ g); is-good = g };
       }
 
   -- of what went, if the cases make such a call
@@ -130,16 +110,11 @@ module _ (l : Lent) (t : Table) (h : Has (l .table) t) where
   IsOf c none = Unit
   IsOf c (some w) = Is c l w
 
-  went-is : (c : Call) → IsOf c (went c (l .clock) (l .answer) t)
+  went-is : (c : Call) → IsOf c (went c (l .clock) (l .answer) (l .spontaneous) t)
   unfolding IsOf went
   went-is (openTable k plan) = tt
-  went-is (registerPoint q) = register-is q
-  went-is (registerPoints qs) = tt
-  went-is (unregisterPoint ca ioa) = unregister-is ca ioa
-  went-is unregisterAll = tt
-  went-is connectionStarted = tt
-  went-is (systemCommand m) = system-is m
-  went-is (processCommand m n k r us) = tt
+  went-is (change c) = change-is c
+  went-is (ask q) = question-is q
 
 -- ---- lines, computed
 
@@ -183,7 +158,7 @@ agrees-on x rest (some w) =
 
 agrees : List Line → Table → Bool
 agrees [] t = true
-agrees (x ∷ xs) t = agrees-on x (agrees xs) (went (x .call) (replicate 8 0) (replicate (x .room) 0xEE) t)
+agrees (x ∷ xs) t = agrees-on x (agrees xs) (went (x .call) (replicate 8 0) (replicate (x .room) 0xEE) [] t)
 
 -- What is computed comes.
 line-is : (x : Line) (xs : List Line) (m : List ℕ) (t : Table) (h : Has m t)
@@ -234,7 +209,7 @@ all-is (c ∷ cs) e = (case-is c (both _ _ e .0), all-is cs (both _ _ e .1))
 -- ---- the table
 
 agreed : all-agree cases ≡ true
-unfolding cases many objects went agrees agrees-on same same-reply case-agrees all-agree _&_ total opens validPlan planned planOk numbersOk registering requestOutcome isPlanned isRegistered ownFault roomFault added changed inStation insertIn seekIn known pointOf element unregistering removed removeIn pointTypes systemTypes processTypes endTypes namedTypes pointOctets elementOctets octetsIn listed classOf stationOf readAs confirmation reply header object asdu selected joined cut chunks interrogationTypes counterTypes objectOf octetsOf pieces asdus report pointsFor systemFrom isSilent commandSaid interrogationAnswer counterAnswer afterCounters resetAt resetIn reported outcomeWith answeredFrom effectIn
+unfolding cases many objects went agrees agrees-on same same-reply case-agrees all-agree _&_ total opens validPlan planned planOk numbersOk registering requestOutcome isPlanned isRegistered ownFault roomFault added changed inStation insertIn seekIn known pointOf element unregistering removed removeIn pointTypes systemTypes processTypes endTypes namedTypes pointOctets elementOctets octetsIn listed classOf stationOf readAs confirmation reply header object asdu selected joined cut chunks interrogationTypes interrogationTypesOf counterTypes limitOf objectOf octetsOf pieces asdus report pointsFor systemFrom isSilent commandSaid interrogationAnswer counterAnswer afterCounters resetBy resetAt resetIn reported answerTo outcomeWith answeredFrom effectIn
 agreed = refl
 
 -- Cases a to j of document 01 come out of the entries' definitions, octet by octet.

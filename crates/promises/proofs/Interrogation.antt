@@ -3,46 +3,45 @@
 use Prim.Native.Nat.{ℕ, _+_, _≤_, _<_}
 use mathlib.Core.Path.{_≡_, refl, sym, ap, _∙_, subst}
 use mathlib.Core.List.{List, [], _∷_, _++_}
-use mathlib.Core.Bool.{Bool, true, false, _||_, not}
-use mathlib.Core.Option.{Option, none, some}
+use mathlib.Core.Bool.{Bool, true, false}
 use native.Mathlib.Omega.{arith}
-use lib.ListN.{length, drop}
+use lib.ListN.{length}
 use lib.Dec.{leb, eqb}
 use borrow.Author.Tests.{eqb-true}
 use Rattle.limits.specs.Test.{_&_, pick}
-use Rattle.limits.specs.Size.{Kind, standardLimit, pointTypes, pointOctets, octetsIn}
-use Rattle.limits.specs.declared.outcome.Outcome.the-variants.{Done, AnswerShort}
+use Rattle.limits.specs.Size.{Kind, pointTypes, pointOctets, octetsIn}
 use Rattle.limits.proofs.Tests.{both}
 use Rattle.octets.specs.Number.{Octets}
 use Rattle.model.specs.declared.Point.{Point}
 use Rattle.model.specs.Place.{pointOk, valid}
 use Rattle.table.specs.Table.{Station, Table, rising}
-use Rattle.table.specs.Change.{stationOf}
+use Rattle.table.specs.Settings.{limitOf}
 use Rattle.table.specs.Memory.{tableOf, wellFormed}
 use Rattle.table.proofs.Parse.{passed, printed, holds}
 use Rattle.table.proofs.Change.{station-found, station-rises}
 use Rattle.registry.specs.Effect.{holding}
 use Rattle.asdu.specs.declared.command.Command.{Command}
 use Rattle.asdu.specs.declared.command.Reading.{Reading}
-use Rattle.asdu.specs.declared.command.Reading.the-variants.{Parsed}
 use Rattle.report.specs.declared.Selection.{Selection}
 use Rattle.report.specs.Packing.{selected}
-use Rattle.report.specs.Selection.{selects, among, interrogationTypes}
+use Rattle.report.specs.Selection.{selects, among, interrogationTypes, interrogationTypesOf}
 use Rattle.report.specs.Report.{report}
 use Rattle.report.specs.Order.{pointsFor, pointsOf}
-use Rattle.answers.specs.declared.Answered.{Answered}
-use Rattle.answers.specs.Said.{Said, Lent, says, answeredOn, lentAfter, fronted}
-use Rattle.answers.specs.System.{qualifierOf, confirmed, terminated, interrogated, isSilent, interrogationAnswer, reported, commandSaid, systemFrom, systemSaid}
-use Rattle.answers.proofs.Ends.{Ends, nothing, ends-short, ends-done}
+use Rattle.answers.specs.declared.Choice.{Choice}
+use Rattle.answers.specs.declared.Choice.the-variants.{Selected, Denied}
+use Rattle.answers.specs.Said.{Said, Lent, lent, says, fronted, Leaves, asItIs, given}
+use Rattle.answers.specs.System.{qualifierOf, confirmed, terminated, interrogated, isSilent, interrogationAnswer, answerTo, reported, commandSaid, systemFrom, systemSaid}
+use Rattle.answers.proofs.Ends.{ends-short, ends-done}
+use Rattle.faithful.specs.Faithful.{Faithful}
 use Rattle.faithful.proofs.Theorem.{interrogation-faithful}
-use Rattle.system_command_handler.specs.Handler.{lentTo as lentToSystem}
 use Rattle.khuvelter.specs.Interface.{answerReply}
 use Rattle.khuvelter.proofs.Whole.{whole}
-use Rattle.promises.specs.Calls.{replyTo, leftBy}
-use Rattle.promises.specs.Calls.Call.{systemCommand}
-use Rattle.promises.specs.Interrogation.{Accepted, Reports, answerTo, TheRightAnswer}
-use Rattle.promises.proofs.Small.{answer-small}
-use Rattle.promises.proofs.Unique.{one-outcome, one-answer, one-opening, one-share, one-start, one-system-answer, one-process-answer}
+use Rattle.khuvelter.specs.Calls.{replyTo, leftBy}
+use Rattle.khuvelter.specs.Calls.Question.{system}
+use Rattle.khuvelter.specs.Calls.Call.{ask}
+use Rattle.promises.specs.Interrogation.{Accepted, Reports, wholeAnswer, TheRightAnswer}
+use Rattle.promises.proofs.Small.{question-small}
+use Rattle.promises.proofs.Unique.{one-outcome, one-table-entry, one-opening, one-share, one-said}
 
 -- ---- every point of a good table has a type of the interrogation
 
@@ -66,9 +65,9 @@ all-covered : covers interrogationTypes pointTypes ≡ true
 unfolding covers among interrogationTypes pointTypes _&_
 all-covered = refl
 
-point-among : (p : Point) → pointOk p ≡ true → among interrogationTypes (p .kind) ≡ true
-unfolding pointOk valid pointOctets
-point-among p e = covered interrogationTypes pointTypes (p .kind) all-covered (both _ _ (both _ _ (both _ _ e .1) .1) .0)
+point-among : (t : Table) (p : Point) → pointOk p ≡ true → among (interrogationTypesOf t) (p .kind) ≡ true
+unfolding pointOk valid pointOctets interrogationTypesOf
+point-among t p e = covered interrogationTypes pointTypes (p .kind) all-covered (both _ _ (both _ _ (both _ _ e .1) .1) .0)
 
 -- The point between two parts of rising points is as described.
 rising-at : (low : ℕ) (before : List Point) (p : Point) (after : List Point) → rising low (before ++ (p ∷ after)) ≡ true → pointOk p ≡ true
@@ -87,7 +86,7 @@ module _ (m : List ℕ) (c : Command) (sel : Selection) (t : Table) (s : Station
       by-test : (b : Bool) → eqb (qualifierOf m) 0 ≡ b → b ≡ false
       by-test false e = refl
       by-test true e =
-          let n : _≡_ {A = Option Selection} none (some sel) = ap interrogated (sym (eqb-true (qualifierOf m) 0 e)) ∙ a .asked in
+          let n : Denied ≡ Selected sel = ap interrogated (sym (eqb-true (qualifierOf m) 0 e)) ∙ a .asked in
           let z : _≡_ {A = ℕ} 0 1 = cc in absurd (omega arith)
 
   heard : isSilent c m ≡ false
@@ -100,15 +99,21 @@ module _ (m : List ℕ) (c : Command) (sel : Selection) (t : Table) (s : Station
   its-points = simp (a .one) (ap pointsOf (a .planned))
 
   -- It says its answer, and changes nothing.
-  accepted-said : (clock : List ℕ) → systemSaid standardLimit clock m t ≡ says (answerTo m c sel s) t clock
-  unfolding systemFrom commandSaid interrogationAnswer reported
+  accepted-said : (clock : List ℕ) → systemSaid clock m t ≡ says (wholeAnswer m c sel t s) t clock
+  unfolding systemFrom commandSaid interrogationAnswer answerTo reported
   accepted-said clock =
-      ap (λ (r : Reading). systemFrom standardLimit clock m r t) (a .read)
+      ap (λ (r : Reading). systemFrom clock m r t) (a .read)
       ∙ (simp (heard, a .kind)
-      (ap (λ (o : Option Selection). says (interrogationAnswer standardLimit c m o (t .stations)) t clock) (a .asked)
-      ∙ ap (λ (ps : List Point). says (confirmed c m ++ (report standardLimit interrogationTypes (qualifierOf m) (c .ca) (selected (selects sel) ps) ++ terminated c m)) t clock) its-points))
+      (ap (λ (x : Choice). says (answerTo t c m (interrogationTypesOf t) (qualifierOf m) x) t clock) (a .asked)
+      ∙ ap (λ (ps : List Point). says (confirmed c m ++ (report (limitOf t) (interrogationTypesOf t) (qualifierOf m) (c .ca) (selected (selects sel) ps) ++ terminated c m)) t clock) its-points))
 
--- ---- what is given back and left
+-- ---- demand 2
+
+-- A station's report is faithful, by whatever limit and types the table's settings say.
+station-faithful : (t : Table) (cause ca : ℕ) (sel : Selection) (s : Station) → rising 0 (s .points) ≡ true
+    → Faithful (limitOf t) (interrogationTypesOf t) cause ca (selects sel) (s .points)
+unfolding limitOf interrogationTypesOf
+station-faithful t cause ca sel s r = interrogation-faithful cause ca sel s r
 
 module _ (m : List ℕ) (c : Command) (sel : Selection) (s : Station) (l : Lent) (o : Octets (l .table)) (w : wellFormed (l .table) ≡ true)
     (a : Accepted m c sel (tableOf (l .table)) s) where
@@ -116,61 +121,47 @@ module _ (m : List ℕ) (c : Command) (sel : Selection) (s : Station) (l : Lent)
   t = tableOf (l .table)
 
   abbrev f : Table → Said
-  f = systemSaid standardLimit (l .clock) m
+  f = systemSaid (l .clock) m
 
-  said : f t ≡ says (answerTo m c sel s) t (l .clock)
+  abbrev octets : List ℕ
+  octets = wholeAnswer m c sel t s
+
+  said : f t ≡ says octets t (l .clock)
   said = accepted-said m c sel t s a (l .clock)
 
   rises : rising 0 (s .points) ≡ true
   rises = station-rises t (c .ca) s (holds (l .table) o w .0) (station-found (c .ca) (t .stations) s (a .planned))
 
   -- With room enough for the answer.
-  answers : length (answerTo m c sel s) ≤ length (l .answer)
-      → Ends f l (record { outcome = Done; octets = length (answerTo m c sel s); spontaneous = 0 })
-      (record { table = l .table; clock = l .clock; answer = fronted (answerTo m c sel s) (l .answer); spontaneous = l .spontaneous })
+  answers : length octets ≤ length (l .answer) → Leaves asItIs f l (given (length octets)) (lent (l .table) (l .clock) (fronted octets (l .answer)) (l .spontaneous))
   answers room =
-      ends-done f l w (length (answerTo m c sel s)) _ (ap (λ (x : Said). x .outcome) said) (ap (λ (x : Said). x .told) said)
+      ends-done f l w (length octets) _ (ap (λ (x : Said). x .outcome) said) (ap (λ (x : Said). x .told) said)
       (sym (ap (λ (x : Said). length (x .answer)) said)) room
-      (ap (λ (n : List ℕ). record { table = n; clock = l .clock; answer = fronted (answerTo m c sel s) (l .answer); spontaneous = l .spontaneous })
-      (printed (l .table) o (passed (l .table) w))
-      ∙ sym (ap (λ (x : Said). record { table = holding (l .table) t (x .after); clock = x .clock; answer = fronted (x .answer) (l .answer); spontaneous = l .spontaneous }) said))
+      (ap (λ (n : List ℕ). lent n (l .clock) (fronted octets (l .answer)) (l .spontaneous)) (printed (l .table) o (passed (l .table) w))
+      ∙ sym (ap (λ (x : Said). lent (holding (l .table) t (x .after)) (x .clock) (fronted (x .answer) (l .answer)) (l .spontaneous)) said))
 
-  -- With less room it is number 4, nothing is reported, and every memory is as it was.
-  is-too-long : length (l .answer) < length (answerTo m c sel s) → Ends f l (nothing AnswerShort) l
-  is-too-long short =
-      ends-short f l w (ap (λ (x : Said). x .outcome) said) (ap (λ (x : Said). x .told) said)
-      (subst (λ (x : Said). length (l .answer) < length (x .answer)) (sym said) short)
-
--- ---- demand 2
-
-module _ (m : List ℕ) (c : Command) (sel : Selection) (s : Station) (l : Lent) (o : Octets (l .table)) (w : wellFormed (l .table) ≡ true)
-    (a : Accepted m c sel (tableOf (l .table)) s) where
-  -- what the entry for system commands is lent
-  abbrev l₁ : Lent
-  l₁ = lentToSystem (l .table) (l .clock) (l .answer)
-
-  -- the memories of the C interface
-  abbrev back : Lent → Lent
-  back x = record { table = x .table; clock = x .clock; answer = x .answer; spontaneous = l .spontaneous }
-
-  reported-once : length (answerTo m c sel s) ≤ length (l .answer) → Reports m c sel s l
+  reported-once : length octets ≤ length (l .answer) → Reports m c sel t s l
   reported-once room =
-      let e = answers m c sel s l₁ o w a room in
-      let y = interrogation-faithful (qualifierOf m) (c .ca) sel s (rises m c sel s l₁ o w a) in
-      let n = whole (length (answerTo m c sel s)) (answer-small m c sel (tableOf (l .table)) s a (holds (l .table) o w .0)) in
+      let e = answers room in
+      let y = station-faithful t (qualifierOf m) (c .ca) sel s rises in
+      let few = ap (λ (x : Said). length (x .answer)) said in
+      let small = question-small (system m) (l .clock) t (holds (l .table) o w .0) .is-small in
+      let n = whole (length octets) (omega arith) in
       record {
         answered = sym (e .answers);
         replied = ap answerReply (sym (e .answers)) ∙ (λ j. record { number = 0; place = 0; octets = n j; spontaneous = 0 });
-        left = ap back (sym (e .leaves));
+        left = sym (e .leaves);
         faithful = y;
-        once = λ before after p is yes. y .once before after p is yes (point-among p (rising-at 0 before p after (subst (λ (ps : List Point). rising 0 ps ≡ true) is (rises m c sel s l₁ o w a))));
+        once = λ before after p is yes. y .once before after p is yes (point-among t p (rising-at 0 before p after (subst (λ (ps : List Point). rising 0 ps ≡ true) is rises)));
       }
 
-  refused-whole : length (l .answer) < length (answerTo m c sel s)
-      → (replyTo (systemCommand m) l ≡ record { number = 4; place = 0; octets = 0; spontaneous = 0 }) × (leftBy (systemCommand m) l ≡ l)
+  -- With less room it is number 4, nothing is reported, and every memory is as it was.
+  refused-whole : length (l .answer) < length octets
+      → (replyTo (ask (system m)) l ≡ record { number = 4; place = 0; octets = 0; spontaneous = 0 }) × (leftBy (ask (system m)) l ≡ l)
   refused-whole short =
-      let e = is-too-long m c sel s l₁ o w a short in
-      (ap answerReply (sym (e .answers)), ap back (sym (e .leaves)))
+      let e = ends-short f l w (ap (λ (x : Said). x .outcome) said) (ap (λ (x : Said). x .told) said)
+      (subst (λ (x : Said). length (l .answer) < length (x .answer)) (sym said) short) in
+      (ap answerReply (sym (e .answers)), sym (e .leaves))
 
 pub the-right-answer : TheRightAnswer
 the-right-answer =
@@ -179,10 +170,8 @@ the-right-answer =
       too-long = refused-whole;
       one-outcome = one-outcome;
       one-share = λ ca m r r′ p q. p ∙ sym q;
-      one-table-entry = one-answer;
+      one-table-entry = one-table-entry;
       one-opening = one-opening;
       one-station-share = one-share;
-      one-start = one-start;
-      one-system-answer = one-system-answer;
-      one-process-answer = one-process-answer;
+      one-answer = one-said;
     }

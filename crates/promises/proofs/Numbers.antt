@@ -10,7 +10,7 @@ use lib.Dec.{leb, eqb}
 use borrow.Author.Tests.{le-leb}
 use Rattle.limits.specs.Test.{_&_, pick}
 use Rattle.limits.specs.Outcome.{numberOf, isDone}
-use Rattle.limits.specs.Size.{standardLimit, pointOctets}
+use Rattle.limits.specs.Size.{pointOctets}
 use Rattle.limits.specs.Share.{admissionIn}
 use Rattle.limits.specs.declared.share.Admission.{Admission}
 use Rattle.limits.specs.declared.share.Admission.the-variants.{Admitted, NoRoom}
@@ -20,6 +20,7 @@ use Rattle.limits.specs.declared.outcome.Outcome.the-variants.{Done, Silent, Ma
 use Rattle.model.specs.declared.Request.{Request}
 use Rattle.model.specs.Request.{groupOk, counterOk, ownFault, requestAt}
 use Rattle.table.specs.Table.{Station, Table, shareOf}
+use Rattle.table.specs.Settings.{limitOf}
 use Rattle.table.specs.Change.{stationOf, removed}
 use Rattle.table.specs.Memory.{parse}
 use Rattle.report.specs.Selection.{among}
@@ -29,20 +30,18 @@ use Rattle.registry.specs.Registry.{isPlanned, isRegistered, admissionOutcome, 
 use Rattle.registry.specs.Opening.{opens}
 use Rattle.records.specs.Records.{requestsIn}
 use Rattle.asdu.specs.declared.command.Command.{Command}
-use Rattle.asdu.specs.declared.command.Entry.the-variants.{SystemCommands, ProcessCommands}
 use Rattle.asdu.specs.declared.command.Reading.{Reading}
 use Rattle.asdu.specs.declared.command.Reading.the-variants.{LengthOutOfRange, TypeNotServed, ObjectsNotWhole, Parsed}
-use Rattle.asdu.specs.Command.{readAs}
 use Rattle.answers.specs.Said.{Said, Lent, fits, outcomeWith, answeredFrom, answeredOn}
 use Rattle.answers.specs.System.{isSilent, interrogationType, countersType, readType, clockType, commandSaid, systemFrom, systemSaid}
-use Rattle.answers.specs.Process.{Proposal, processCauseTaken, proposalOk, processFrom}
+use Rattle.answers.specs.Process.{Proposal, processCauseTaken, proposalOk, processFrom, processSaid}
 use Rattle.answers.specs.Start.{startSaid}
-use Rattle.starting.specs.Starting.{lentTo as lentAtStart}
-use Rattle.system_command_handler.specs.Handler.{lentTo as lentToSystem}
-use Rattle.commands.specs.Entry.{proposalOf, lentTo as lentToProcess}
+use Rattle.commands.specs.Entry.{proposalOf}
 use Rattle.khuvelter.specs.Interface.{isSet}
-use Rattle.promises.specs.Calls.{Call, processed, replyTo}
-use Rattle.promises.specs.Calls.Call.{openTable, registerPoint, registerPoints, unregisterPoint, unregisterAll, connectionStarted, systemCommand, processCommand}
+use Rattle.khuvelter.specs.Calls.{Call, replyTo}
+use Rattle.khuvelter.specs.Calls.Change.{registerPoint, registerPoints, unregisterPoint, unregisterAll}
+use Rattle.khuvelter.specs.Calls.Question.{connectionStarted, system, process}
+use Rattle.khuvelter.specs.Calls.Call.{openTable, change, ask}
 use Rattle.promises.specs.Answers.{numbersOf}
 
 -- ---- each number belongs to one outcome
@@ -245,14 +244,14 @@ module _ (ns : List ℕ) (done : Gives ns Done) where
 
   -- System commands.
   module _ (silent : Gives ns Silent) (malformed : Gives ns Malformed) where
-    command-gives : (clock m : List ℕ) (c : Command) (t : Table) → Gives ns (commandSaid standardLimit clock m c t .outcome)
+    command-gives : (clock m : List ℕ) (c : Command) (t : Table) → Gives ns (commandSaid clock m c t .outcome)
     unfolding commandSaid
     command-gives clock m c t =
         gives-said ns (eqb (c .kind) interrogationType) _ _ done
         (gives-said ns (eqb (c .kind) countersType) _ _ done
         (gives-said ns (eqb (c .kind) readType) _ _ done (gives-said ns (eqb (c .kind) clockType) _ _ done done)))
 
-    system-gives : (clock m : List ℕ) (r : Reading) (t : Table) → Gives ns (systemFrom standardLimit clock m r t .outcome)
+    system-gives : (clock m : List ℕ) (r : Reading) (t : Table) → Gives ns (systemFrom clock m r t .outcome)
     unfolding systemFrom
     system-gives clock m LengthOutOfRange t = malformed
     system-gives clock m TypeNotServed t = silent
@@ -260,27 +259,27 @@ module _ (ns : List ℕ) (done : Gives ns Done) where
     system-gives clock m (Parsed c) t = gives-said ns (isSilent c m) _ _ silent (command-gives clock m c t)
 
     -- Process commands.
-    process-gives : Gives ns BadProposal → (p : Proposal) (r : Reading) (t : Table) → Gives ns (processFrom standardLimit p r t .outcome)
+    process-gives : Gives ns BadProposal → (clock : List ℕ) (p : Proposal) (r : Reading) (t : Table) → Gives ns (processFrom clock p r t .outcome)
     unfolding processFrom
-    process-gives bad p LengthOutOfRange t = malformed
-    process-gives bad p TypeNotServed t = silent
-    process-gives bad p ObjectsNotWhole t = malformed
-    process-gives bad p (Parsed c) t =
-        gives-said ns (processCauseTaken (c .cause)) _ _ (gives-said ns (proposalOk standardLimit (p .kind) (p .objects)) _ _ done bad) silent
+    process-gives bad clock p LengthOutOfRange t = malformed
+    process-gives bad clock p TypeNotServed t = silent
+    process-gives bad clock p ObjectsNotWhole t = malformed
+    process-gives bad clock p (Parsed c) t =
+        gives-said ns (processCauseTaken (c .cause)) _ _ (gives-said ns (proposalOk (limitOf t) (p .kind) (p .objects)) _ _ done bad) silent
 
 -- System commands tell nothing.
 pick-untold : (b : Bool) (x y : Said) → x .told ≡ [] → y .told ≡ [] → pick b x y .told ≡ []
 pick-untold true x y p q = p
 pick-untold false x y p q = q
 
-command-untold : (clock m : List ℕ) (c : Command) (t : Table) → commandSaid standardLimit clock m c t .told ≡ []
+command-untold : (clock m : List ℕ) (c : Command) (t : Table) → commandSaid clock m c t .told ≡ []
 unfolding commandSaid
 command-untold clock m c t =
     pick-untold (eqb (c .kind) interrogationType) _ _ refl
     (pick-untold (eqb (c .kind) countersType) _ _ refl
     (pick-untold (eqb (c .kind) readType) _ _ refl (pick-untold (eqb (c .kind) clockType) _ _ refl refl)))
 
-system-untold : (clock m : List ℕ) (r : Reading) (t : Table) → systemFrom standardLimit clock m r t .told ≡ []
+system-untold : (clock m : List ℕ) (r : Reading) (t : Table) → systemFrom clock m r t .told ≡ []
 unfolding systemFrom
 system-untold clock m LengthOutOfRange t = refl
 system-untold clock m TypeNotServed t = refl
@@ -309,31 +308,35 @@ pub call-numbered : (c : Call) (l : Lent) → among (numbersOf c) (replyTo c l .
 unfolding among
 call-numbered (openTable k plan) l =
     gives-pick (numbersOf (openTable k plan)) (opens k plan (length (l .table))) Done InvalidPlan (record { is-one = refl }) (record { is-one = refl }) .is-one
-call-numbered (registerPoint q) l =
-    on-table (numbersOf (registerPoint [])) (registering (requestAt q 0)) (record { is-one = refl }) (registering-gives (numbersOf (registerPoint [])) (own-numbers (numbersOf (registerPoint [])) refl refl refl refl refl refl refl refl refl) (requestAt q 0)) (l .table) .is-one
-call-numbered (registerPoints qs) l =
-    on-table (numbersOf (registerPoints [])) (registeringAll (requestsIn qs)) (record { is-one = refl })
-    (batch-gives (numbersOf (registerPoints [])) (own-numbers (numbersOf (registerPoints [])) refl refl refl refl refl refl refl refl refl) (record { is-one = refl }) (requestsIn qs)) (l .table) .is-one
-call-numbered (unregisterPoint ca ioa) l =
-    on-table (numbersOf (unregisterPoint 0 0)) (unregistering ca ioa) (record { is-one = refl })
-    (removing-gives (numbersOf (unregisterPoint 0 0)) (record { is-one = refl }) (record { is-one = refl }) ca ioa) (l .table) .is-one
-call-numbered unregisterAll l =
-    on-table (numbersOf unregisterAll) unregisteringAll (record { is-one = refl }) (removing-all-gives (numbersOf unregisterAll) (record { is-one = refl })) (l .table) .is-one
-call-numbered connectionStarted l =
-    answered-gives (numbersOf connectionStarted) (record { is-one = refl }) (record { is-one = refl }) startSaid (lentAtStart (l .table) (l .answer)) (record { is-one = refl })
-    (λ t. record { is-one = refl })
-    (λ t. untold (numbersOf connectionStarted) (record { is-one = refl }) (record { is-one = refl }) (startSaid t) [] refl) .is-one
-call-numbered (systemCommand m) l =
-    let ns = numbersOf (systemCommand []) in
+call-numbered (change (registerPoint q)) l =
+    let ns = numbersOf (change (registerPoint [])) in
+    on-table ns (registering (requestAt q 0)) (record { is-one = refl })
+    (registering-gives ns (own-numbers ns refl refl refl refl refl refl refl refl refl) (requestAt q 0)) (l .table) .is-one
+call-numbered (change (registerPoints qs)) l =
+    let ns = numbersOf (change (registerPoints [])) in
+    on-table ns (registeringAll (requestsIn qs)) (record { is-one = refl })
+    (batch-gives ns (own-numbers ns refl refl refl refl refl refl refl refl refl) (record { is-one = refl }) (requestsIn qs)) (l .table) .is-one
+call-numbered (change (unregisterPoint ca ioa)) l =
+    on-table (numbersOf (change (unregisterPoint 0 0))) (unregistering ca ioa) (record { is-one = refl })
+    (removing-gives (numbersOf (change (unregisterPoint 0 0))) (record { is-one = refl }) (record { is-one = refl }) ca ioa) (l .table) .is-one
+call-numbered (change unregisterAll) l =
+    on-table (numbersOf (change unregisterAll)) unregisteringAll (record { is-one = refl }) (removing-all-gives (numbersOf (change unregisterAll)) (record { is-one = refl })) (l .table) .is-one
+call-numbered (ask connectionStarted) l =
+    let ns = numbersOf (ask connectionStarted) in
     let done : Gives ns Done = record { is-one = refl } in
     let short : Gives ns AnswerShort = record { is-one = refl } in
-    answered-gives ns done short (systemSaid standardLimit (l .clock) m) (lentToSystem (l .table) (l .clock) (l .answer)) (record { is-one = refl })
-    (λ t. system-gives ns done (record { is-one = refl }) (record { is-one = refl }) (l .clock) m (readAs standardLimit SystemCommands m) t)
-    (λ t. untold ns done short (systemSaid standardLimit (l .clock) m t) [] (system-untold (l .clock) m (readAs standardLimit SystemCommands m) t)) .is-one
-call-numbered (processCommand m n k r us) l =
-    let ns = numbersOf (processCommand [] 0 0 [] []) in
+    answered-gives ns done short (startSaid (l .clock)) l (record { is-one = refl }) (λ t. done) (λ t. untold ns done short (startSaid (l .clock) t) (l .spontaneous) refl) .is-one
+call-numbered (ask (system m)) l =
+    let ns = numbersOf (ask (system [])) in
+    let done : Gives ns Done = record { is-one = refl } in
+    let short : Gives ns AnswerShort = record { is-one = refl } in
+    answered-gives ns done short (systemSaid (l .clock) m) l (record { is-one = refl })
+    (λ t. system-gives ns done (record { is-one = refl }) (record { is-one = refl }) (l .clock) m _ t)
+    (λ t. untold ns done short (systemSaid (l .clock) m t) (l .spontaneous) (system-untold (l .clock) m _ t)) .is-one
+call-numbered (ask (process m n k r us)) l =
+    let ns = numbersOf (ask (process [] 0 0 [] [])) in
     let done : Gives ns Done = record { is-one = refl } in
     let p = proposalOf (isSet n) k r us in
-    answered-gives ns done (record { is-one = refl }) (processed m n k r us) (lentToProcess (l .table) (l .answer) (l .spontaneous)) (record { is-one = refl })
-    (λ t. process-gives ns done (record { is-one = refl }) (record { is-one = refl }) (record { is-one = refl }) p (readAs standardLimit ProcessCommands m) t)
-    (λ t. gives-pick ns (fits (processed m n k r us t .told) (l .spontaneous)) Done SpontaneousShort done (record { is-one = refl })) .is-one
+    answered-gives ns done (record { is-one = refl }) (processSaid (l .clock) p m) l (record { is-one = refl })
+    (λ t. process-gives ns done (record { is-one = refl }) (record { is-one = refl }) (record { is-one = refl }) (l .clock) p _ t)
+    (λ t. gives-pick ns (fits (processSaid (l .clock) p m t .told) (l .spontaneous)) Done SpontaneousShort done (record { is-one = refl })) .is-one

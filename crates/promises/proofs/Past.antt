@@ -1,8 +1,8 @@
 -- Memory past a table's own octets is the caller's: every call leaves it as it was, since a table under the same K and plan has as many octets.
 -- Assumes nothing.
-use Prim.Native.Nat.{ℕ, _+_, _*_}
+use Prim.Native.Nat.{ℕ, _+_}
 use mathlib.Core.Path.{_≡_, refl, sym, ap, _∙_, subst}
-use mathlib.Core.List.{List, _++_, map}
+use mathlib.Core.List.{List, _++_}
 use mathlib.Core.Bool.{Bool, true, false}
 use mathlib.Core.Option.{Option, some}
 use native.Mathlib.Omega.{arith}
@@ -10,33 +10,53 @@ use lib.ListN.{length, drop, length-map}
 use lib.Seq.{drop-append-seam}
 use Rattle.limits.specs.Test.{pick}
 use Rattle.limits.specs.Outcome.{isDone}
-use Rattle.limits.specs.Size.{standardLimit}
 use Rattle.octets.specs.Number.{Octets}
 use Rattle.model.specs.Request.{requestAt}
 use Rattle.table.specs.Table.{Table, image}
 use Rattle.table.specs.Memory.{parse}
 use Rattle.table.proofs.Parse.{Good, good-is, length-image, parse-sound}
-use Rattle.registry.specs.Effect.{Effect, next, holding, memoryFrom, memoryOn}
-use Rattle.registry.specs.Registry.{registering, registeringAll, unregistering, unregisteringAll}
+use Rattle.registry.specs.Effect.{Effect, holding, memoryFrom, memoryOn}
 use Rattle.registry.specs.Opening.{planned, tableOctets, opens, fresh, openedMemory}
-use Rattle.registry.specs.History.{lineOf, effectOf}
-use Rattle.registry.specs.History.Call.{register, registerAll, unregister, command}
-use Rattle.registry.specs.History.Call.{unregisterAll as removeAll}
+use Rattle.registry.specs.History.{lineOf, effectOf, Quiet}
+use Rattle.registry.specs.History.Call.{register, registerAll, unregister, command, unregisterAll as removeAll}
 use Rattle.registry.specs.History as registry
 use Rattle.registry.proofs.Histories.{SamePlan, keeps}
 use Rattle.opening.proofs.Fresh.{table-octets}
 use Rattle.records.specs.Records.{requestsIn}
 use Rattle.records.proofs.Laws.{all-twelve}
-use Rattle.answers.specs.Said.{Said, Lent, lentAfter}
-use Rattle.answers.specs.System.{systemSaid}
+use Rattle.answers.specs.Said.{Lent}
 use Rattle.answers.proofs.Common.{effectIn, command-effect}
-use Rattle.answers.proofs.Quiet.{system-quiet, process-quiet, updates-whole}
-use Rattle.system_command_handler.specs.Handler.{lentTo as lentToSystem}
-use Rattle.commands.specs.Entry.{proposalOf, lentTo as lentToProcess}
+use Rattle.answers.proofs.Quiet.{start-quiet, system-quiet, process-quiet, updates-whole}
+use Rattle.commands.specs.Entry.{proposalOf}
 use Rattle.khuvelter.specs.Interface.{isSet}
-use Rattle.promises.specs.Calls.{Call, processed, leftBy}
-use Rattle.promises.specs.Calls.Call.{openTable, registerPoint, registerPoints, unregisterPoint, unregisterAll, connectionStarted, systemCommand, processCommand}
+use Rattle.khuvelter.specs.Calls.{Change, Question, Call, effectBy, saidBy, leftBy}
+use Rattle.khuvelter.specs.Calls.Change.{registerPoint, registerPoints, unregisterPoint, unregisterAll}
+use Rattle.khuvelter.specs.Calls.Question.{connectionStarted, system, process}
+use Rattle.khuvelter.specs.Calls.Call.{openTable, change, ask}
 use Rattle.promises.specs.Answers.{ownOctets}
+
+-- ---- the calls of the C interface as registry's
+
+-- A change is one of its own.
+abbrev pub registered : Change → registry.Call
+registered (registerPoint q) = register (requestAt q 0) refl
+registered (registerPoints qs) = registerAll (requestsIn qs) (all-twelve qs 0 _)
+registered (unregisterPoint ca ioa) = unregister ca ioa
+registered unregisterAll = removeAll
+
+pub same-effect : (c : Change) → effectOf (registered c) ≡ effectBy c
+same-effect (registerPoint q) = refl
+same-effect (registerPoints qs) = refl
+same-effect (unregisterPoint ca ioa) = refl
+same-effect unregisterAll = refl
+
+-- A question is a command, since it is quiet.
+pub quiet : (q : Question) (l : Lent) → Quiet (effectIn (saidBy q (l .clock)) l)
+quiet connectionStarted l = start-quiet l
+quiet (system m) l = system-quiet m l
+quiet (process m n k r us) l = process-quiet (proposalOf (isSet n) k r us) (updates-whole us 0 _) m l
+
+-- ---- the octets of a table
 
 -- The octets of a good table.
 octets-are : (t : Table) → Good t → length (image t) ≡ tableOctets (t .capacity) (length (t .stations))
@@ -80,19 +100,9 @@ opening-past k plan m = by-test (opens k plan (length m))
 -- Every call.
 pub past-own : (c : Call) (l : Lent) → Octets (l .table) → (t : Table) → parse (l .table) ≡ some t → drop (ownOctets c t) (leftBy c l .table) ≡ drop (ownOctets c t) (l .table)
 past-own (openTable k plan) l o t e = opening-past k plan (l .table)
-past-own (registerPoint q) l o t e = call-past (l .table) t e (good-is t (parse-sound (l .table) t o e .0)) (register (requestAt q 0) refl)
-past-own (registerPoints qs) l o t e = call-past (l .table) t e (good-is t (parse-sound (l .table) t o e .0)) (registerAll (requestsIn qs) (all-twelve qs 0 _))
-past-own (unregisterPoint ca ioa) l o t e = call-past (l .table) t e (good-is t (parse-sound (l .table) t o e .0)) (unregister ca ioa)
-past-own unregisterAll l o t e = call-past (l .table) t e (good-is t (parse-sound (l .table) t o e .0)) removeAll
-past-own connectionStarted l o t e = refl
-past-own (systemCommand m) l o t e =
-    let f = systemSaid standardLimit (l .clock) m in
-    let l₁ = lentToSystem (l .table) (l .clock) (l .answer) in
-    ap (drop (tableOctets (t .capacity) (length (t .stations)))) (command-effect f l₁ .0)
-    ∙ call-past (l .table) t e (good-is t (parse-sound (l .table) t o e .0)) (command (effectIn f l₁) (system-quiet standardLimit m l₁))
-past-own (processCommand m n k r us) l o t e =
-    let f = processed m n k r us in
-    let l₁ = lentToProcess (l .table) (l .answer) (l .spontaneous) in
-    ap (drop (tableOctets (t .capacity) (length (t .stations)))) (command-effect f l₁ .0)
-    ∙ call-past (l .table) t e (good-is t (parse-sound (l .table) t o e .0))
-    (command (effectIn f l₁) (process-quiet standardLimit (proposalOf (isSet n) k r us) (updates-whole us 0 _) m l₁))
+past-own (change c) l o t e =
+    subst (λ (f : Table → Effect). drop (tableOctets (t .capacity) (length (t .stations))) (memoryOn f (l .table)) ≡ drop (tableOctets (t .capacity) (length (t .stations))) (l .table))
+    (same-effect c) (call-past (l .table) t e (good-is t (parse-sound (l .table) t o e .0)) (registered c))
+past-own (ask q) l o t e =
+    ap (drop (tableOctets (t .capacity) (length (t .stations)))) (command-effect (saidBy q (l .clock)) l .0)
+    ∙ call-past (l .table) t e (good-is t (parse-sound (l .table) t o e .0)) (command (effectIn (saidBy q (l .clock)) l) (quiet q l))

@@ -11,7 +11,6 @@ use lib.ListN.{length}
 use lib.Dec.{eqb}
 use Rattle.limits.specs.Test.{pick}
 use Rattle.limits.specs.Outcome.{numberOf, isDone}
-use Rattle.limits.specs.Size.{standardLimit}
 use Rattle.limits.specs.declared.outcome.Outcome.{Outcome}
 use Rattle.limits.specs.declared.outcome.Outcome.the-variants.{Done, CeilingReached, NotAdmitted}
 use Rattle.limits.proofs.Outcomes.{not-both}
@@ -21,30 +20,24 @@ use Rattle.table.specs.Table.{Station, Table, held, good}
 use Rattle.table.specs.Change.{stationOf}
 use Rattle.table.proofs.Parse.{Good, good-is, is-good}
 use Rattle.registry.specs.declared.Reply.{Reply as TableReply}
-use Rattle.registry.specs.Effect.{refused, replyFrom, replyOn}
+use Rattle.registry.specs.Effect.{replyFrom, replyOn}
 use Rattle.registry.specs.Opening.{planned, opens, fresh, openedMemory}
 use Rattle.registry.specs.Registry.{roomFault, requestOutcome, registering, registeringAll}
-use Rattle.registry.specs.History.{heldBy, tallyAfter}
-use Rattle.registry.specs.History.{memoryAfter as memoryAfterAll}
-use Rattle.registry.specs.History.Call.{register, registerAll, unregister, command}
-use Rattle.registry.specs.History.Call.{unregisterAll as removeAll}
+use Rattle.registry.specs.History.{heldBy, tallyAfter, memoryAfter as memoryAfterAll}
+use Rattle.registry.specs.History.Call.{command}
 use Rattle.registry.proofs.Batches.{own-tests-ready, turn-good}
 use Rattle.registry.proofs.Histories.{After, history, station-numbers, below-reservation-has-room, granted-alone}
-use Rattle.opening.proofs.Fresh.{opens-good, opened-parses}
-use Rattle.opening.proofs.Fresh.{refused as refused-opening}
+use Rattle.opening.proofs.Fresh.{opens-good, opened-parses, refused as refused-opening}
 use Rattle.records.specs.Records.{requestsIn}
 use Rattle.records.proofs.Laws.{all-twelve}
 use Rattle.answers.specs.Said.{Lent}
-use Rattle.answers.specs.System.{systemSaid}
 use Rattle.answers.proofs.Common.{effectIn, command-effect}
-use Rattle.answers.proofs.Quiet.{system-quiet, process-quiet, updates-whole}
-use Rattle.system_command_handler.specs.Handler.{lentTo as lentToSystem}
-use Rattle.commands.specs.Entry.{proposalOf, lentTo as lentToProcess}
-use Rattle.khuvelter.specs.Interface.{isSet}
-use Rattle.promises.specs.Calls.{Call, processed, replyTo, leftBy}
-use Rattle.promises.specs.Calls.Call.{openTable, registerPoint, registerPoints, unregisterPoint, unregisterAll, connectionStarted, systemCommand, processCommand}
-use Rattle.promises.specs.Shares.{Step, lentAt, memoryAfter, Books, openedBooks, counted, entered, booksAfter, Registrable, AtCeiling, NotAdmittedIn, Alone, AtTurn, Exactly, Stands, TheShares}
+use Rattle.khuvelter.specs.Calls.{Call, saidBy, replyTo, leftBy}
+use Rattle.khuvelter.specs.Calls.Change.{registerPoint, registerPoints, unregisterPoint, unregisterAll}
+use Rattle.khuvelter.specs.Calls.Call.{openTable, change, ask}
+use Rattle.promises.specs.Shares.{Step, lentAt, memoryAfter, Books, openedBooks, entered, booksAfter, Registrable, AtCeiling, NotAdmittedIn, Alone, AtTurn, Exactly, Stands, TheShares}
 use Rattle.promises.proofs.Numbers.{one-number}
+use Rattle.promises.proofs.Past.{registered, quiet}
 use Rattle.promises.proofs.Rooms.{Rule, nineteen, twenty, turn-of, one-turn, alone-exactly, turn-fault, batch-exactly}
 
 -- ---- an opened table
@@ -93,36 +86,25 @@ module _ (b : Books) (l : Lent) (a : Kept b (l .table)) where
           subst (λ (x : Books). Kept x (openedMemory k plan (l .table))) (sym n)
           (subst (λ (m : List ℕ). Kept b m) (sym (refused-opening k plan (l .table) e)) a)
 
-  started-kept : Kept (counted b connectionStarted (replyTo connectionStarted l)) (l .table)
-  started-kept =
-      record {
-        table = a .table;
-        read = a .read;
-        is-good = a .is-good;
-        capacity = a .capacity;
-        plan = a .plan;
-        counts = λ ca. let z = a .counts ca in omega arith;
-      }
-
   call-kept : (c : Call) → Kept (entered b c (replyTo c l)) (leftBy c l .table)
   unfolding memoryAfterAll tallyAfter
   call-kept (openTable k plan) = opening-kept k plan
-  call-kept (registerPoint q) = history (b .capacity) (b .plan) (l .table) (b .tally) (register (requestAt q 0) refl ∷ []) a
-  call-kept (registerPoints qs) = history (b .capacity) (b .plan) (l .table) (b .tally) (registerAll (requestsIn qs) (all-twelve qs 0 _) ∷ []) a
-  call-kept (unregisterPoint ca ioa) = history (b .capacity) (b .plan) (l .table) (b .tally) (unregister ca ioa ∷ []) a
-  call-kept unregisterAll = history (b .capacity) (b .plan) (l .table) (b .tally) (removeAll ∷ []) a
-  call-kept connectionStarted = started-kept
-  call-kept (systemCommand m) =
-      let f = systemSaid standardLimit (l .clock) m in
-      let l₁ = lentToSystem (l .table) (l .clock) (l .answer) in
-      subst (Kept (counted b (systemCommand m) (replyTo (systemCommand m) l))) (sym (command-effect f l₁ .0))
-      (history (b .capacity) (b .plan) (l .table) (b .tally) (command (effectIn f l₁) (system-quiet standardLimit m l₁) ∷ []) a)
-  call-kept (processCommand m n k r us) =
-      let f = processed m n k r us in
-      let l₁ = lentToProcess (l .table) (l .answer) (l .spontaneous) in
-      subst (Kept (counted b (processCommand m n k r us) (replyTo (processCommand m n k r us) l))) (sym (command-effect f l₁ .0))
-      (history (b .capacity) (b .plan) (l .table) (b .tally)
-      (command (effectIn f l₁) (process-quiet standardLimit (proposalOf (isSet n) k r us) (updates-whole us 0 _) m l₁) ∷ []) a)
+  call-kept (change (registerPoint q)) = history (b .capacity) (b .plan) (l .table) (b .tally) (registered (registerPoint q) ∷ []) a
+  call-kept (change (registerPoints qs)) = history (b .capacity) (b .plan) (l .table) (b .tally) (registered (registerPoints qs) ∷ []) a
+  call-kept (change (unregisterPoint ca ioa)) = history (b .capacity) (b .plan) (l .table) (b .tally) (registered (unregisterPoint ca ioa) ∷ []) a
+  call-kept (change unregisterAll) = history (b .capacity) (b .plan) (l .table) (b .tally) (registered unregisterAll ∷ []) a
+  call-kept (ask q) =
+      let f = saidBy q (l .clock) in
+      let h = history (b .capacity) (b .plan) (l .table) (b .tally) (command (effectIn f l) (quiet q l) ∷ []) a in
+      subst (Kept b) (sym (command-effect f l .0))
+      (record {
+        table = h .table;
+        read = h .read;
+        is-good = h .is-good;
+        capacity = h .capacity;
+        plan = h .plan;
+        counts = λ ca. let z = h .counts ca in omega arith;
+      })
 
 -- After any calls.
 all-kept : (b : Books) (m : List ℕ) (steps : List Step) → Kept b m → Kept (booksAfter b m steps) (memoryAfter m steps)
@@ -144,13 +126,13 @@ module _ (b : Books) (m : List ℕ) (a : Kept b m) where
 
   -- what registration gives back on this memory
   alone-number : (q : List ℕ) (l : Lent) → l .table ≡ m
-      → replyTo (registerPoint q) l .number ≡ numberOf (requestOutcome t (requestAt q 0) (stationOf (requestAt q 0 .ca) (t .stations)))
+      → replyTo (change (registerPoint q)) l .number ≡ numberOf (requestOutcome t (requestAt q 0) (stationOf (requestAt q 0 .ca) (t .stations)))
   unfolding registering replyFrom
   alone-number q l e =
       ap (λ (x : List ℕ). numberOf (replyOn (registering (requestAt q 0)) x .outcome)) e ∙ ap (λ (x : Option Table). numberOf (replyFrom (registering (requestAt q 0)) x .outcome)) (a .read)
 
   alone-rule : (o : Outcome) (P : Table → Station → Type 0) → Rule o P → (q : List ℕ) (l : Lent) → l .table ≡ m
-      → Exactly (replyTo (registerPoint q) l .number ≡ numberOf o) (Alone t (requestAt q 0) P)
+      → Exactly (replyTo (change (registerPoint q)) l .number ≡ numberOf o) (Alone t (requestAt q 0) P)
   alone-rule o P rule q l e =
       let x = alone-exactly o P rule t (requestAt q 0) (a .is-good) in
       record {

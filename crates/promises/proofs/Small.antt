@@ -1,7 +1,7 @@
--- The answer to an interrogation of one station has far fewer octets than 2^32: thirty types, at most 4,096 points, at most 127 objects in an ASDU.
+-- Every answer has far fewer octets than 2^32: thirty types, at most 4,096 points, at most 127 objects in an ASDU.
 -- Assumes nothing.
-use Prim.Native.Nat.{ℕ, zero, suc, _+_, _*_, _-_, _/_, _≤_, _<_, min}
-use mathlib.Core.Path.{_≡_, refl, sym, ap, _∙_, subst}
+use Prim.Native.Nat.{ℕ, zero, suc, _+_, _*_, _-_, _/_, _≤_, _<_}
+use mathlib.Core.Path.{_≡_, refl, ap, _∙_, subst}
 use mathlib.Core.List.{List, [], _∷_, _++_}
 use mathlib.Core.Bool.{Bool, true, false, _||_, not}
 use mathlib.Core.Option.{Option, none, some}
@@ -15,14 +15,16 @@ use Rattle.limits.specs.Outcome.{isDone}
 use Rattle.limits.specs.declared.outcome.Outcome.{Outcome}
 use Rattle.limits.specs.declared.outcome.Outcome.the-variants.{Done, Silent, BadProposal}
 use Rattle.octets.specs.Number.{Octets}
-use Rattle.limits.specs.Size.{standardLimit, pointOctets, elementOctets, mostObjects, asdusOf, runOctets, controlOctets, headerOctets, addressOctets}
+use Rattle.limits.specs.Size.{pointOctets, elementOctets, mostObjects, asdusOf, runOctets, controlOctets, headerOctets, addressOctets}
 use Rattle.limits.proofs.Sizes.{point-at-most}
 use Rattle.limits.proofs.Tests.{both, total-append}
 use Rattle.model.specs.declared.Point.{Point}
-use Rattle.table.specs.Table.{Station, Table, held, rising, allRising}
+use Rattle.table.specs.Table.{Station, Table, held, allRising}
+use Rattle.table.specs.Settings.{limitOf}
 use Rattle.table.specs.Change.{stationOf, pointIn}
 use Rattle.table.specs.Memory.{parse}
-use Rattle.table.proofs.Parse.{Good, good-is, parse-sound}
+use Rattle.table.proofs.Parse.{Good, good-is, is-good, parse-sound}
+use Rattle.table.proofs.Settings.{limit-least, limit-most}
 use Rattle.table.proofs.Change.{station-found, station-rises}
 use Rattle.asdu.specs.declared.command.Command.{Command}
 use Rattle.asdu.specs.declared.command.Entry.the-variants.{SystemCommands}
@@ -34,30 +36,34 @@ use Rattle.asdu.specs.Confirmation.{confirmation, echo}
 use Rattle.asdu.proofs.Lengths.{length-reply, confirmation-fits, echo-fits}
 use Rattle.report.specs.declared.Selection.{Selection}
 use Rattle.report.specs.Packing.{selected, joined, Each}
-use Rattle.report.specs.Selection.{selects, interrogationTypes, counterTypes}
+use Rattle.report.specs.Selection.{selects, interrogationTypes, interrogationTypesOf, counterTypes}
 use Rattle.report.specs.Report.{ofKind, report}
 use Rattle.report.specs.Order.{pointsOf, allPoints, byAddress, pointsFor}
 use Rattle.asdu.specs.Header.{globalAddress}
 use Rattle.report.proofs.Packing.{length-joined}
 use Rattle.report.proofs.Each.{each-append, each-selected}
 use Rattle.report.proofs.Order.{length-sorted, sorted-each}
-use Rattle.report.specs.Single.{requestedAsdu}
+use Rattle.report.specs.Single.{requestedAsdu, stationCommonAddress}
 use Rattle.report.proofs.Report.{Whole, length-report}
-use Rattle.report.proofs.Single.{length-single}
+use Rattle.report.proofs.Single.{length-single, length-end}
 use Rattle.asdu.specs.Cause.{activationConfirmation}
-use Rattle.answers.specs.System.{qualifierOf, confirmed, terminated, reported, interrogationAnswer, counterAnswer, counterCause, choiceOf, chosen, interrogated, addressesIn, pointsAsked, readAnswer, interrogationType, countersType, readType, clockType, commandSaid, causeTaken, isSilent, systemFrom}
+use Rattle.answers.specs.System.{qualifierOf, confirmed, terminated, reported, answerTo, interrogationAnswer, counterAnswer, counterCause, chosen, interrogated, addressesIn, pointsAsked, pointsRead, readAnswer, interrogationType, countersType, readType, clockType, commandSaid, causeTaken, isSilent, systemFrom}
+use Rattle.answers.specs.declared.Choice.{Choice}
+use Rattle.answers.specs.declared.Choice.the-variants.{Selected, Denied}
 use Rattle.answers.specs.Said.{Said, Lent, unsaid, outcomeWith, answeredFrom, answeredOn}
 use Rattle.answers.specs.Process.{Proposal, proposalOk, processCauseTaken, confirmationCause, processReply, toldBy, tableAfter, readUpdates, processFrom}
 use Rattle.faithful.proofs.Theorem.{rising-whole}
-use Rattle.khuvelter.specs.Interface.{narrowed}
+use Rattle.commands.specs.Entry.{proposalOf}
+use Rattle.khuvelter.specs.Interface.{narrowed, isSet}
+use Rattle.khuvelter.specs.Calls.{Question, saidBy}
+use Rattle.khuvelter.specs.Calls.Question.{connectionStarted, system, process}
 use Rattle.khuvelter.proofs.Whole.{whole}
-use Rattle.promises.specs.Interrogation.{Accepted, answerTo}
 
 -- A run of at most 4,096 objects.
-run-small : (element n : ℕ) → element ≤ 12 → n ≤ 4096 → runOctets standardLimit element n ≤ 100000
-run-small element n e h =
-    let most : mostObjects standardLimit element ≤ 127 = min-le-right _ _ in
-    let d : asdusOf (mostObjects standardLimit element) n ≤ n + (mostObjects standardLimit element - 1) = div-le-self _ _ in
+run-small : (limit element n : ℕ) → element ≤ 12 → n ≤ 4096 → runOctets limit element n ≤ 100000
+run-small limit element n e h =
+    let most : mostObjects limit element ≤ 127 = min-le-right _ _ in
+    let d : asdusOf (mostObjects limit element) n ≤ n + (mostObjects limit element - 1) = div-le-self _ _ in
     let p : n * (3 + element) ≤ 4096 * (3 + element) = mul-le-mul-right (3 + element) h in
     omega arith
 
@@ -91,14 +97,14 @@ station-small t ca s g e =
     omega arith
 
 -- The report of at most 4,096 points, by at most thirty types.
-report-small : (types : List ℕ) (cause ca : ℕ) (ps : List Point) → length types ≤ 30 → Each Whole ps → length ps ≤ 4096
-    → length (report standardLimit types cause ca ps) ≤ 3000000
-report-small types cause ca ps few w h =
-    let l = length-report standardLimit (omega arith) types cause ca ps w in
-    let b = runs-small (λ kind. runOctets standardLimit (pointOctets kind) (length (ofKind kind ps)))
+report-small : (limit : ℕ) → 25 ≤ limit → (types : List ℕ) (cause ca : ℕ) (ps : List Point) → length types ≤ 30 → Each Whole ps → length ps ≤ 4096
+    → length (report limit types cause ca ps) ≤ 3000000
+report-small limit least types cause ca ps few w h =
+    let l = length-report limit (omega arith) types cause ca ps w in
+    let b = runs-small (λ kind. runOctets limit (pointOctets kind) (length (ofKind kind ps)))
     (λ kind.
     let q = selected-shorter (λ (x : Point). eqb (x .kind) kind) ps in
-    run-small (pointOctets kind) (length (ofKind kind ps)) (point-at-most kind) (omega arith)) types in
+    run-small limit (pointOctets kind) (length (ofKind kind ps)) (point-at-most kind) (omega arith)) types in
     omega arith
 
 -- ---- the points of a good table
@@ -142,27 +148,13 @@ few-for t ca g = by-test (eqb ca globalAddress)
     by-test true = few-all t g
     by-test false = few-own t ca g (stationOf ca (t .stations)) refl
 
-thirty : length interrogationTypes ≤ 30
-unfolding interrogationTypes
-thirty = omega arith
+thirty : (t : Table) → length (interrogationTypesOf t) ≤ 30
+unfolding interrogationTypes interrogationTypesOf
+thirty t = omega arith
 
 ne-zero : (n : ℕ) → (n ≡ 0 → ⊥) → 0 < n
 ne-zero zero h = absurd (h refl)
 ne-zero (suc n) h = omega arith
-
--- Confirmation and termination have at most 249 octets each, so the answer is small.
-pub answer-small : (m : List ℕ) (c : Command) (sel : Selection) (t : Table) (s : Station) → Accepted m c sel t s → Good t → length (answerTo m c sel s) < 4294967296
-answer-small m c sel t s a g =
-    let w = parsed-is standardLimit SystemCommands m c (a .read) in
-    let some-object : 0 < c .count = let z = eqb-false _ _ (a .object) in ne-zero (c .count) z in
-    let x : List ℕ = report standardLimit interrogationTypes (qualifierOf m) (c .ca) (selected (selects sel) (s .points)) in
-    let one = confirmation-fits standardLimit SystemCommands c m 7 false w some-object in
-    let two = confirmation-fits standardLimit SystemCommands c m 10 false w some-object in
-    let f = few-selected (selects sel) (s .points) (few-own t (c .ca) g (some s) (a .planned)) in
-    let r = report-small interrogationTypes (qualifierOf m) (c .ca) (selected (selects sel) (s .points)) thirty (f .are-whole) (f .few) in
-    let l : length (answerTo m c sel s) ≡ length (confirmed c m) + (length x + length (terminated c m)) =
-    length-append (confirmed c m) (x ++ terminated c m) ∙ ap (λ (n : ℕ). length (confirmed c m) + n) (length-append x (terminated c m)) in
-    omega arith
 
 -- ---- the points of a read command
 
@@ -221,34 +213,43 @@ two-types : length counterTypes ≤ 30
 unfolding counterTypes
 two-types = omega arith
 
-module _ (m : List ℕ) (c : Command) (w : WellRead standardLimit SystemCommands m c) (some-object : 0 < c .count) (t : Table) (g : Good t) where
+module _ (m : List ℕ) (c : Command) (t : Table) (g : Good t) (w : WellRead (limitOf t) SystemCommands m c) (some-object : 0 < c .count) where
   reply-small : (cause : ℕ) (negative : Bool) → length (confirmation c m cause negative) ≤ 249
-  reply-small cause negative = confirmation-fits standardLimit SystemCommands c m cause negative w some-object
+  reply-small cause negative =
+      let most = limit-most t (is-good t g) in
+      let l = confirmation-fits (limitOf t) SystemCommands c m cause negative w some-object in
+      omega arith
 
-  reported-small : (types : List ℕ) (cause : ℕ) (sel : Selection) → length types ≤ 30 → length (reported standardLimit c m types cause sel (t .stations)) ≤ 4000000
+  reported-small : (types : List ℕ) (cause : ℕ) (sel : Selection) → length types ≤ 30 → length (reported t c m types cause sel) ≤ 4000000
   unfolding reported
   reported-small types cause sel few =
-      let x : List ℕ = report standardLimit types cause (c .ca) (selected (selects sel) (pointsFor (c .ca) (t .stations))) in
+      let x : List ℕ = report (limitOf t) types cause (c .ca) (selected (selects sel) (pointsFor (c .ca) (t .stations))) in
       let f = few-selected (selects sel) (pointsFor (c .ca) (t .stations)) (few-for t (c .ca) g) in
-      let r = report-small types cause (c .ca) (selected (selects sel) (pointsFor (c .ca) (t .stations))) few (f .are-whole) (f .few) in
+      let r = report-small (limitOf t) (limit-least t (is-good t g)) types cause (c .ca) (selected (selects sel) (pointsFor (c .ca) (t .stations))) few (f .are-whole) (f .few) in
       let one = reply-small 7 false in
       let two = reply-small 10 false in
       let l : length (confirmed c m ++ (x ++ terminated c m)) ≡ length (confirmed c m) + (length x + length (terminated c m)) =
       length-append (confirmed c m) (x ++ terminated c m) ∙ ap (λ (n : ℕ). length (confirmed c m) + n) (length-append x (terminated c m)) in
       omega arith
 
-  interrogation-small : (o : Option Selection) → length (interrogationAnswer standardLimit c m o (t .stations)) ≤ 4000000
-  unfolding interrogationAnswer
-  interrogation-small none = let r = reply-small 7 true in omega arith
-  interrogation-small (some sel) = reported-small interrogationTypes (qualifierOf m) sel thirty
+  pub answer-small : (types : List ℕ) (cause : ℕ) (x : Choice) → length types ≤ 30 → length (answerTo t c m types cause x) ≤ 4000000
+  unfolding answerTo
+  answer-small types cause Denied few = let r = reply-small 7 true in omega arith
+  answer-small types cause (Selected sel) few = reported-small types cause sel few
 
-  counter-small : (o : Option Selection) → length (counterAnswer standardLimit c m o (t .stations)) ≤ 4000000
+  pub interrogation-small : length (interrogationAnswer c m t) ≤ 4000000
+  unfolding interrogationAnswer
+  interrogation-small = answer-small (interrogationTypesOf t) (qualifierOf m) (interrogated (qualifierOf m)) (thirty t)
+
+  counter-small : length (counterAnswer c m t) ≤ 4000000
   unfolding counterAnswer
-  counter-small none = let r = reply-small 7 true in omega arith
-  counter-small (some sel) = reported-small counterTypes (counterCause (choiceOf (qualifierOf m))) sel two-types
+  counter-small = answer-small counterTypes (counterCause (qualifierOf m)) (chosen (qualifierOf m)) two-types
 
   echo-small : (cause : ℕ) (negative : Bool) → length (echo c m cause negative) ≤ 249
-  echo-small cause negative = echo-fits standardLimit SystemCommands c m cause negative w
+  echo-small cause negative =
+      let most = limit-most t (is-good t g) in
+      let l = echo-fits (limitOf t) SystemCommands c m cause negative w in
+      omega arith
 
   read-small : (o : Option (List Point)) → AskedFew (c .count) o → length (readAnswer c m o) ≤ 4000000
   unfolding readAnswer AskedFew
@@ -262,15 +263,15 @@ module _ (m : List ℕ) (c : Command) (w : WellRead standardLimit SystemCommands
       omega arith
 
   -- What a command that is taken says.
-  command-small : (clock : List ℕ) → Small (commandSaid standardLimit clock m c t)
+  command-small : (clock : List ℕ) → Small (commandSaid clock m c t)
   unfolding commandSaid
   command-small clock =
-      let asked : AskedFew (c .count) (pointsAsked (addressesIn m headerOctets (c .count)) (pointsOf (stationOf (c .ca) (t .stations)))) =
-      subst (λ (n : ℕ). AskedFew n (pointsAsked (addressesIn m headerOctets (c .count)) (pointsOf (stationOf (c .ca) (t .stations))))) (addresses-length m headerOctets (c .count))
+      let asked : AskedFew (c .count) (pointsRead c m t) =
+      subst (λ (n : ℕ). AskedFew n (pointsRead c m t)) (addresses-length m headerOctets (c .count))
       (asked-few (addressesIn m headerOctets (c .count)) (pointsOf (stationOf (c .ca) (t .stations))) (few-own t (c .ca) g (stationOf (c .ca) (t .stations)) refl .are-whole)) in
       let e : length (echo c m activationConfirmation false) ≤ 4000000 = let z = echo-small 7 false in omega arith in
-      pick-small (eqb (c .kind) interrogationType) _ _ (record { is-small = interrogation-small (interrogated (qualifierOf m)) })
-      (pick-small (eqb (c .kind) countersType) _ _ (record { is-small = counter-small (chosen (choiceOf (qualifierOf m))) })
+      pick-small (eqb (c .kind) interrogationType) _ _ (record { is-small = interrogation-small })
+      (pick-small (eqb (c .kind) countersType) _ _ (record { is-small = counter-small })
       (pick-small (eqb (c .kind) readType) _ _ (record { is-small = read-small _ asked })
       (pick-small (eqb (c .kind) clockType) _ _ (record { is-small = e }) (record { is-small = e }))))
 
@@ -278,7 +279,7 @@ unsaid-small : (o : Outcome) (t : Table) (clock : List ℕ) → Small (unsaid o 
 unsaid-small o t clock = record { is-small = omega arith }
 
 -- What any system command says: at most 4,000,000 octets.
-pub system-small : (clock m : List ℕ) (t : Table) → Good t → (r : Reading) → readAs standardLimit SystemCommands m ≡ r → Small (systemFrom standardLimit clock m r t)
+system-small : (clock m : List ℕ) (t : Table) → Good t → (r : Reading) → readAs (limitOf t) SystemCommands m ≡ r → Small (systemFrom clock m r t)
 unfolding systemFrom isSilent
 system-small clock m t g LengthOutOfRange e = unsaid-small _ t clock
 system-small clock m t g TypeNotServed e = unsaid-small _ t clock
@@ -286,34 +287,43 @@ system-small clock m t g ObjectsNotWhole e = unsaid-small _ t clock
 system-small clock m t g (Parsed c) e = by-count (eqb (c .count) 0) refl
   where
     by-count : (b : Bool) → eqb (c .count) 0 ≡ b
-        → Small (pick (b || (not (causeTaken (c .kind) (c .cause)) || (eqb (c .kind) interrogationType & eqb (qualifierOf m) 0))) (unsaid Silent t clock) (commandSaid standardLimit clock m c t))
+        → Small (pick (b || (not (causeTaken (c .kind) (c .cause)) || (eqb (c .kind) interrogationType & eqb (qualifierOf m) 0))) (unsaid Silent t clock) (commandSaid clock m c t))
     by-count true n = unsaid-small Silent t clock
     by-count false n =
-        pick-small (not (causeTaken (c .kind) (c .cause)) || (eqb (c .kind) interrogationType & eqb (qualifierOf m) 0)) (unsaid Silent t clock) (commandSaid standardLimit clock m c t)
+        pick-small (not (causeTaken (c .kind) (c .cause)) || (eqb (c .kind) interrogationType & eqb (qualifierOf m) 0)) (unsaid Silent t clock) (commandSaid clock m c t)
         (unsaid-small Silent t clock)
-        (command-small m c (parsed-is standardLimit SystemCommands m c e) (ne-zero (c .count) (eqb-false _ _ n)) t g clock)
+        (command-small m c t g (parsed-is (limitOf t) SystemCommands m c e) (ne-zero (c .count) (eqb-false _ _ n)) clock)
 
 -- The reply octets of a proposal that is not bad.
-proposal-few : (kind : ℕ) (objects : List ℕ) → proposalOk standardLimit kind objects ≡ true → length objects ≤ 243
+proposal-few : (limit kind : ℕ) (objects : List ℕ) → proposalOk limit kind objects ≡ true → length objects ≤ limit
 unfolding proposalOk
-proposal-few kind objects e = leb-true _ _ (both _ _ (both _ _ e .1) .0)
+proposal-few limit kind objects e =
+    let l : length objects ≤ limit - (controlOctets + headerOctets) = leb-true _ _ (both _ _ (both _ _ e .1) .0) in
+    omega arith
 
--- What any process command says to the answer memory: at most 249.
-pub process-small : (p : Proposal) (r : Reading) (t : Table) → Small (processFrom standardLimit p r t)
+-- What any process command says to the answer memory.
+process-small : (clock : List ℕ) (p : Proposal) (t : Table) → Good t → (r : Reading) → Small (processFrom clock p r t)
 unfolding processFrom
-process-small p LengthOutOfRange t = unsaid-small _ t []
-process-small p TypeNotServed t = unsaid-small _ t []
-process-small p ObjectsNotWhole t = unsaid-small _ t []
-process-small p (Parsed c) t =
-    pick-small (processCauseTaken (c .cause)) _ _ (by-proposal (proposalOk standardLimit (p .kind) (p .objects)) refl) (unsaid-small Silent t [])
+process-small clock p t g LengthOutOfRange = unsaid-small _ t clock
+process-small clock p t g TypeNotServed = unsaid-small _ t clock
+process-small clock p t g ObjectsNotWhole = unsaid-small _ t clock
+process-small clock p t g (Parsed c) =
+    pick-small (processCauseTaken (c .cause)) _ _ (by-proposal (proposalOk (limitOf t) (p .kind) (p .objects)) refl) (unsaid-small Silent t clock)
   where
-    by-proposal : (b : Bool) → proposalOk standardLimit (p .kind) (p .objects) ≡ b
-        → Small (pick b (record { outcome = Done; answer = processReply c p; told = toldBy t (readUpdates p); after = tableAfter t (readUpdates p); clock = [] }) (unsaid BadProposal t []))
+    by-proposal : (b : Bool) → proposalOk (limitOf t) (p .kind) (p .objects) ≡ b
+        → Small (pick b (record { outcome = Done; answer = processReply c p; told = toldBy t (readUpdates p); after = tableAfter t (readUpdates p); clock = clock }) (unsaid BadProposal t clock))
     by-proposal true e =
-        let few = proposal-few (p .kind) (p .objects) e in
+        let few = proposal-few (limitOf t) (p .kind) (p .objects) e in
+        let most = limit-most t (is-good t g) in
         let l = length-reply c (p .kind) (length (p .objects) / (addressOctets + elementOctets (p .kind))) (confirmationCause (c .cause)) (p .negative) (p .objects) in
         record { is-small = omega arith }
-    by-proposal false e = unsaid-small BadProposal t []
+    by-proposal false e = unsaid-small BadProposal t clock
+
+-- What any question says to a good table.
+pub question-small : (q : Question) (clock : List ℕ) (t : Table) → Good t → Small (saidBy q clock t)
+question-small connectionStarted clock t g = record { is-small = let l = length-end (stationCommonAddress (t .stations)) in omega arith }
+question-small (system m) clock t g = system-small clock m t g _ refl
+question-small (process m n k r us) clock t g = process-small clock (proposalOf (isSet n) k r us) t g _
 
 -- What is small is reported whole in 32 bits, whatever is said to a good table.
 pub small-whole : (f : Table → Said) (l : Lent) → Octets (l .table) → ((t : Table) → Good t → Small (f t)) → narrowed (answeredOn f l .octets) ≡ answeredOn f l .octets

@@ -4,7 +4,7 @@
 use Prim.Native.Nat.{ℕ, _<_}
 use mathlib.Core.Path.{_≡_}
 use mathlib.Core.List.{List, [], _∷_}
-use mathlib.Core.Bool.{Bool, true, false}
+use mathlib.Core.Bool.{true, false}
 use mathlib.Core.Option.{some}
 use lib.ListN.{length, drop}
 use lib.Dec.{eqb}
@@ -15,22 +15,18 @@ use Rattle.table.specs.Table.{Table}
 use Rattle.table.specs.Memory.{parse}
 use Rattle.report.specs.Selection.{among}
 use Rattle.registry.specs.declared.Reply.{Reply as TableReply}
-use Rattle.registry.specs.declared.StationShare.{StationShare}
 use Rattle.registry.specs.Effect.{Effect, replyOn, memoryOn}
 use Rattle.registry.specs.Registry.{shareOn}
 use Rattle.registry.specs.Opening.{planned, tableOctets, openOutcome, openedMemory}
 use Rattle.answers.specs.declared.Answered.{Answered}
-use Rattle.answers.specs.Said.{Said, Lent, answeredOn, lentAfter}
-use Rattle.answers.specs.Start.{startSaid}
-use Rattle.starting.specs.Starting.{lentTo as lentAtStart}
-use Rattle.system_command_handler.specs.declared.SystemAnswered.{SystemAnswered}
-use Rattle.system_command_handler.specs.Handler.{lentTo as lentToSystem, Leaves as SystemLeaves}
-use Rattle.commands.specs.Entry.{lentTo as lentToProcess, Leaves as ProcessLeaves}
+use Rattle.answers.specs.Said.{Said, Lent, Leaves, asItIs}
 use Rattle.khuvelter.specs.Interface.{flatShare}
 use Rattle.khuvelter.specs.declared.Reply.{Reply}
 use Rattle.khuvelter.specs.declared.Share.{Share}
-use Rattle.promises.specs.Calls.{Call, Meets}
-use Rattle.promises.specs.Calls.Call.{openTable, registerPoint, registerPoints, unregisterPoint, unregisterAll, connectionStarted, systemCommand, processCommand}
+use Rattle.khuvelter.specs.Calls.{Call, tableAlone, Meets}
+use Rattle.khuvelter.specs.Calls.Change.{registerPoint, registerPoints, unregisterPoint, unregisterAll}
+use Rattle.khuvelter.specs.Calls.Question.{connectionStarted, system, process}
+use Rattle.khuvelter.specs.Calls.Call.{openTable, change, ask}
 
 -- "A refusal … reports zero octets written, and changes no table, clock or output memory": any number other than 0.
 pub record Refusal (number octets spontaneous : ℕ) (before after : Lent) : Type 0 where
@@ -45,28 +41,19 @@ pub record Beyond (octets spontaneous : ℕ) (before after : Lent) : Type 0 wher
 -- "A refusal gives its number from document 01": the numbers that each call may give.
 abbrev pub numbersOf : Call → List ℕ
 numbersOf (openTable k plan) = 0 ∷ 10 ∷ []
-numbersOf (registerPoint q) = 0 ∷ 3 ∷ 11 ∷ 12 ∷ 13 ∷ 14 ∷ 15 ∷ 17 ∷ 19 ∷ 20 ∷ []
-numbersOf (registerPoints qs) = 0 ∷ 3 ∷ 11 ∷ 12 ∷ 13 ∷ 14 ∷ 15 ∷ 16 ∷ 17 ∷ 19 ∷ 20 ∷ []
-numbersOf (unregisterPoint ca ioa) = 0 ∷ 3 ∷ 18 ∷ []
-numbersOf unregisterAll = 0 ∷ 3 ∷ []
-numbersOf connectionStarted = 0 ∷ 3 ∷ 4 ∷ []
-numbersOf (systemCommand m) = 0 ∷ 1 ∷ 2 ∷ 3 ∷ 4 ∷ []
-numbersOf (processCommand m n k r us) = 0 ∷ 1 ∷ 2 ∷ 3 ∷ 4 ∷ 5 ∷ 6 ∷ []
+numbersOf (change (registerPoint q)) = 0 ∷ 3 ∷ 11 ∷ 12 ∷ 13 ∷ 14 ∷ 15 ∷ 17 ∷ 19 ∷ 20 ∷ []
+numbersOf (change (registerPoints qs)) = 0 ∷ 3 ∷ 11 ∷ 12 ∷ 13 ∷ 14 ∷ 15 ∷ 16 ∷ 17 ∷ 19 ∷ 20 ∷ []
+numbersOf (change (unregisterPoint ca ioa)) = 0 ∷ 3 ∷ 18 ∷ []
+numbersOf (change unregisterAll) = 0 ∷ 3 ∷ []
+numbersOf (ask connectionStarted) = 0 ∷ 3 ∷ 4 ∷ []
+numbersOf (ask (system m)) = 0 ∷ 1 ∷ 2 ∷ 3 ∷ 4 ∷ []
+numbersOf (ask (process m n k r us)) = 0 ∷ 1 ∷ 2 ∷ 3 ∷ 4 ∷ 5 ∷ 6 ∷ []
 
 -- The octets of the table that a call finds in its memory t, or that it opens there: what lies past them is the caller's.
 abbrev pub ownOctets : Call → Table → ℕ
 ownOctets (openTable k plan) t = tableOctets k (length (planned plan))
-ownOctets (registerPoint q) t = tableOctets (t .capacity) (length (t .stations))
-ownOctets (registerPoints qs) t = tableOctets (t .capacity) (length (t .stations))
-ownOctets (unregisterPoint ca ioa) t = tableOctets (t .capacity) (length (t .stations))
-ownOctets unregisterAll t = tableOctets (t .capacity) (length (t .stations))
-ownOctets connectionStarted t = tableOctets (t .capacity) (length (t .stations))
-ownOctets (systemCommand m) t = tableOctets (t .capacity) (length (t .stations))
-ownOctets (processCommand m n k r us) t = tableOctets (t .capacity) (length (t .stations))
-
--- A call that only changes the table is lent no other memory.
-abbrev pub tableAlone : List ℕ → Lent
-tableAlone m = record { table = m; clock = []; answer = []; spontaneous = [] }
+ownOctets (change c) t = tableOctets (t .capacity) (length (t .stations))
+ownOctets (ask q) t = tableOctets (t .capacity) (length (t .stations))
 
 -- A share that is refused has 0 for every other number.
 pub record ShareRefusal (r : Share) : Type 0 where
@@ -98,15 +85,5 @@ pub record AnAnswerAndAnEnd : Type 0 where
   -- `open`;
   pub open-entry : (k : ℕ) (plan m : List ℕ) (r : Outcome) (n : List ℕ) → (r ≡ openOutcome k plan m) × (n ≡ openedMemory k plan m)
       → Refusal (numberOf r) 0 0 (tableAlone m) (tableAlone n)
-  -- `connection_started`;
-  pub start-entry : (table answer : List ℕ) (r : Answered) (answer′ : List ℕ)
-      → (r ≡ answeredOn startSaid (lentAtStart table answer)) × (answer′ ≡ lentAfter startSaid (lentAtStart table answer) .answer)
-      → Settled r (lentAtStart table answer) (lentAtStart table answer′)
-  -- `system_command`, whatever f it says;
-  pub system-entry : (f : Table → Said) (table clock answer : List ℕ) (r : SystemAnswered) (table′ answer′ : List ℕ)
-      → SystemLeaves f (lentToSystem table clock answer) r table′ answer′
-      → Settled (r .answered) (lentToSystem table clock answer) (lentToSystem table′ (r .clock) answer′)
-  -- and `process_command`.
-  pub process-entry : (f : Table → Said) (table answer spontaneous : List ℕ) (r : Answered) (table′ answer′ spontaneous′ : List ℕ)
-      → ProcessLeaves f (lentToProcess table answer spontaneous) r table′ answer′ spontaneous′
-      → Settled r (lentToProcess table answer spontaneous) (lentToProcess table′ answer′ spontaneous′)
+  -- and `connection_started`, `system_command`, `process_command`, whatever they say to the table.
+  pub answering-entry : (f : Table → Said) (before : Lent) (r : Answered) (after : Lent) → Leaves asItIs f before r after → Settled r before after

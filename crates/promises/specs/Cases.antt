@@ -6,10 +6,11 @@ use mathlib.Core.List.{List, [], _∷_, _++_, map}
 use lib.ListN.{length, replicate}
 use Rattle.report.specs.Packing.{flat, Each}
 use Rattle.registry.specs.Opening.{planned, tableOctets, openedMemory}
-use Rattle.answers.specs.Said.{Lent, fronted}
-use Rattle.khuvelter.specs.declared.Reply.{Reply}
-use Rattle.promises.specs.Calls.{Call, replyTo, leftBy}
-use Rattle.promises.specs.Calls.Call.{openTable, registerPoint, unregisterPoint, systemCommand}
+use Rattle.answers.specs.Said.{Lent, lent, fronted}
+use Rattle.khuvelter.specs.Calls.{Call, tableAlone, replyTo, leftBy}
+use Rattle.khuvelter.specs.Calls.Change.{registerPoint, unregisterPoint}
+use Rattle.khuvelter.specs.Calls.Question.{system}
+use Rattle.khuvelter.specs.Calls.Call.{openTable, change, ask}
 
 -- ---- what a case is
 
@@ -29,7 +30,7 @@ pub record Case : Type 0 where
 
 -- What is lent to a call: the table, a clock that is not known, an answer memory of octets EE.
 abbrev pub lentFor : List ℕ → Line → Lent
-lentFor m x = record { table = m; clock = replicate 8 0; answer = replicate (x .room) 0xEE; spontaneous = [] }
+lentFor m x = lent m (replicate 8 0) (replicate (x .room) 0xEE) []
 
 -- Each call gives back its number and the octets of its ASDUs, these stand one after another at the front of the answer memory, and they are as long as said.
 unfoldable pub Comes : List ℕ → List Line → Type 0
@@ -46,7 +47,7 @@ memoryFor c = replicate (tableOctets (c .capacity) (length (planned (c .plan))))
 
 -- The opening is done, and the calls come out as the paper has it.
 pub record Holds (c : Case) : Type 0 where
-  pub opens : replyTo (openTable (c .capacity) (c .plan)) (record { table = memoryFor c; clock = []; answer = []; spontaneous = [] }) .number ≡ 0
+  pub opens : replyTo (openTable (c .capacity) (c .plan)) (tableAlone (memoryFor c)) .number ≡ 0
   pub comes : Comes (openedMemory (c .capacity) (c .plan) (memoryFor c)) (c .lines)
 
 -- ---- how the lines are written
@@ -66,11 +67,11 @@ numbered g = 1 ∷ g ∷ []
 -- A point is registered: 0, 19 or 20; nothing is written to an answer.
 abbrev pub registers : ℕ → ℕ → ℕ → List ℕ → List ℕ → List ℕ → ℕ → ℕ → Line
 registers ca ioa kind group counter value rest number =
-    record { call = registerPoint (recordOf ca ioa kind group counter value rest); room = 0; number = number; asdus = []; sizes = [] }
+    record { call = change (registerPoint (recordOf ca ioa kind group counter value rest)); room = 0; number = number; asdus = []; sizes = [] }
 
 -- A command is answered.
 abbrev pub asks : List ℕ → ℕ → ℕ → List (List ℕ) → List ℕ → Line
-asks asdu room number asdus sizes = record { call = systemCommand asdu; room = room; number = number; asdus = asdus; sizes = sizes }
+asks asdu room number asdus sizes = record { call = ask (system asdu); room = room; number = number; asdus = asdus; sizes = sizes }
 
 -- "K = 8; station 7, r 2, c 4. Points: IOA 10 type 1 octet 01 group 1; IOA 3 type 1 octet 00; IOA 5 type 15 octets 2A 00 00 00 03, counter group 1."
 abbrev pub onPaper : List Line → Case
@@ -114,7 +115,7 @@ abbrev pub registersAt : ℕ → ℕ → ℕ → Line
 registersAt ca ioa number = registers ca ioa 1 none none (0x00 ∷ []) 11 number
 
 abbrev pub letsGo : ℕ → ℕ → Line
-letsGo ca ioa = record { call = unregisterPoint ca ioa; room = 0; number = 0; asdus = []; sizes = [] }
+letsGo ca ioa = record { call = change (unregisterPoint ca ioa); room = 0; number = 0; asdus = []; sizes = [] }
 
 -- ---- the table
 

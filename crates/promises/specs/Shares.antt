@@ -5,8 +5,8 @@
 use Prim.Native.Nat.{ℕ, suc, _+_, _-_, _≤_, _<_}
 use mathlib.Core.Path.{_≡_}
 use mathlib.Core.List.{List, [], _∷_, map}
-use mathlib.Core.Bool.{Bool, true, false}
-use mathlib.Core.Option.{Option, none, some}
+use mathlib.Core.Bool.{true, false}
+use mathlib.Core.Option.{some}
 use mathlib.Core.Logic.{_⊎_}
 use lib.ListN.{length}
 use lib.Dec.{eqb}
@@ -18,16 +18,16 @@ use Rattle.model.specs.Request.{ownFault, requestAt}
 use Rattle.table.specs.Table.{Station, Table, held, unmet, good}
 use Rattle.table.specs.Change.{stationOf}
 use Rattle.table.specs.Memory.{parse}
-use Rattle.registry.specs.declared.Reply.{Reply as TableReply}
 use Rattle.registry.specs.Effect.{replyOn}
 use Rattle.registry.specs.Registry.{isPlanned, isRegistered, roomFault, withRequest, ownTests, registeringAll}
 use Rattle.registry.specs.Opening.{planned, opens, openedMemory}
 use Rattle.registry.specs.History.{Line, lineOf, Tally, atOpening, requestsOf, heldAt}
 use Rattle.records.specs.Records.{requestsIn}
-use Rattle.answers.specs.Said.{Lent}
+use Rattle.answers.specs.Said.{Lent, lent}
 use Rattle.khuvelter.specs.declared.Reply.{Reply}
-use Rattle.promises.specs.Calls.{Call, replyTo, leftBy}
-use Rattle.promises.specs.Calls.Call.{openTable, registerPoint, registerPoints, unregisterPoint, unregisterAll, connectionStarted, systemCommand, processCommand}
+use Rattle.khuvelter.specs.Calls.{Change, Call, replyTo, leftBy}
+use Rattle.khuvelter.specs.Calls.Change.{registerPoint, registerPoints, unregisterPoint, unregisterAll}
+use Rattle.khuvelter.specs.Calls.Call.{openTable, change, ask}
 
 -- ---- "after any calls, each given the table as the call before left it"
 
@@ -40,7 +40,7 @@ pub record Step : Type 0 where
 
 -- What is lent, the table being as the call before left it.
 abbrev pub lentAt : List ℕ → Step → Lent
-lentAt m s = record { table = m; clock = s .clock; answer = s .answer; spontaneous = s .spontaneous }
+lentAt m s = lent m (s .clock) (s .answer) (s .spontaneous)
 
 -- The table's memory after these calls.
 unfoldable pub memoryAfter : List ℕ → List Step → List ℕ
@@ -50,26 +50,18 @@ memoryAfter m (s ∷ ss) = memoryAfter (leftBy (s .call) (lentAt m s) .table) ss
 -- ---- "points granted minus removed, counted from the calls since opening"
 
 -- The points that a call grants to a station, by its answer.
-abbrev pub grantedBy : ℕ → Call → Reply → ℕ
+abbrev pub grantedBy : ℕ → Change → Reply → ℕ
 grantedBy ca (registerPoint q) r = pick (eqb (r .number) 0 & eqb (requestAt q 0 .ca) ca) 1 0
 grantedBy ca (registerPoints qs) r = pick (eqb (r .number) 0) (requestsOf ca (requestsIn qs)) 0
-grantedBy ca (openTable k plan) r = 0
 grantedBy ca (unregisterPoint c ioa) r = 0
 grantedBy ca unregisterAll r = 0
-grantedBy ca connectionStarted r = 0
-grantedBy ca (systemCommand m) r = 0
-grantedBy ca (processCommand m n k o us) r = 0
 
 -- The points that a call removes from a station which has `left` of those granted, by its answer.
-abbrev pub removedBy : ℕ → Call → Reply → ℕ → ℕ
+abbrev pub removedBy : ℕ → Change → Reply → ℕ → ℕ
 removedBy ca (unregisterPoint c ioa) r left = pick (eqb (r .number) 0 & eqb c ca) 1 0
 removedBy ca unregisterAll r left = pick (eqb (r .number) 0) left 0
-removedBy ca (openTable k plan) r left = 0
 removedBy ca (registerPoint q) r left = 0
 removedBy ca (registerPoints qs) r left = 0
-removedBy ca connectionStarted r left = 0
-removedBy ca (systemCommand m) r left = 0
-removedBy ca (processCommand m n k o us) r left = 0
 
 -- What an owner can keep from the answers alone: K and the plan of the last accepted opening, and each station's points granted and removed since.
 pub record Books : Type 0 where
@@ -81,8 +73,8 @@ pub record Books : Type 0 where
 abbrev pub openedBooks : ℕ → List ℕ → Books
 openedBooks k plan = record { capacity = k; plan = map lineOf (planned plan); tally = λ ca. atOpening }
 
--- One call and its answer, counted.
-abbrev pub counted : Books → Call → Reply → Books
+-- One call that changes which points there are, and its answer, counted.
+abbrev pub counted : Books → Change → Reply → Books
 counted b c r =
     record {
       capacity = b .capacity;
@@ -94,16 +86,11 @@ counted b c r =
           };
     }
 
--- An accepted opening begins new books; every other call is counted.
+-- An accepted opening begins new books; a change is counted; a call that is answered by ASDUs grants and removes nothing.
 abbrev pub entered : Books → Call → Reply → Books
 entered b (openTable k plan) r = pick (eqb (r .number) 0) (openedBooks k plan) b
-entered b (registerPoint q) r = counted b (registerPoint q) r
-entered b (registerPoints qs) r = counted b (registerPoints qs) r
-entered b (unregisterPoint ca ioa) r = counted b (unregisterPoint ca ioa) r
-entered b unregisterAll r = counted b unregisterAll r
-entered b connectionStarted r = counted b connectionStarted r
-entered b (systemCommand m) r = counted b (systemCommand m) r
-entered b (processCommand m n k o us) r = counted b (processCommand m n k o us) r
+entered b (change c) r = counted b c r
+entered b (ask q) r = b
 
 -- The books after these calls.
 unfoldable pub booksAfter : Books → List ℕ → List Step → Books
@@ -172,13 +159,13 @@ pub record Stands (b : Books) (m : List ℕ) : Type 0 where
   pub ceilings : (ca : ℕ) (s : Station) → stationOf ca (table .stations) ≡ some s → held s ≤ s .ceiling
   -- "a well-formed, unregistered point of a planned station holding less than its reservation is granted when registered alone,"
   pub granted-alone : (q : List ℕ) (l : Lent) (s : Station) → l .table ≡ m → Registrable table (requestAt q 0) s → held s < s .reservation
-      → replyTo (registerPoint q) l .number ≡ 0
+      → replyTo (change (registerPoint q)) l .number ≡ 0
   -- "and at its turn in a batch is never refused for room";
   pub never-refused : (qs : List ℕ) (i : ℕ) → AtTurn table (requestsIn qs) i (λ u s. held s < s .reservation) → (o : Outcome) → (o ≡ CeilingReached) ⊎ (o ≡ NotAdmitted)
       → replyOn (registeringAll (requestsIn qs)) m ≡ record { outcome = o; place = i } → ⊥
   -- "Room is refused exactly by the share rule": 19 and 20 of a point alone,
-  pub ceiling-alone : (q : List ℕ) (l : Lent) → l .table ≡ m → Exactly (replyTo (registerPoint q) l .number ≡ 19) (Alone table (requestAt q 0) AtCeiling)
-  pub room-alone : (q : List ℕ) (l : Lent) → l .table ≡ m → Exactly (replyTo (registerPoint q) l .number ≡ 20) (Alone table (requestAt q 0) NotAdmittedIn)
+  pub ceiling-alone : (q : List ℕ) (l : Lent) → l .table ≡ m → Exactly (replyTo (change (registerPoint q)) l .number ≡ 19) (Alone table (requestAt q 0) AtCeiling)
+  pub room-alone : (q : List ℕ) (l : Lent) → l .table ≡ m → Exactly (replyTo (change (registerPoint q)) l .number ≡ 20) (Alone table (requestAt q 0) NotAdmittedIn)
   -- and of a batch, which names the point.
   pub ceiling-in-batch : (qs : List ℕ) (i : ℕ)
       → Exactly (replyOn (registeringAll (requestsIn qs)) m ≡ record { outcome = CeilingReached; place = i }) (AtTurn table (requestsIn qs) i AtCeiling)

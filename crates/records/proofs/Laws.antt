@@ -9,7 +9,7 @@ use Rattle.model.specs.declared.Request.{Request}
 use Rattle.model.specs.Request.{requestAt, requestsAt}
 use Rattle.registry.specs.Registry.{standsIn}
 use Rattle.registry.specs.History.{AllTwelve}
-use Rattle.records.specs.Records.{earlierAt, addressAt, standsBefore}
+use Rattle.records.specs.Records.{earlierAt, hasAddress, standsBefore}
 
 -- ---- one request after another
 
@@ -41,16 +41,16 @@ all-twelve m at (suc n) = (refl, all-twelve m (at + 24) n)
 
 -- What the code finds is what the definition of a batch asks.
 pub stands-law : (m : List ℕ) (q : Request) (n : ℕ) → standsIn q (earlierAt m n) ≡ standsBefore m (q .ca) (q .ioa) n
-unfolding standsIn earlierAt standsBefore addressAt
+unfolding standsIn earlierAt standsBefore hasAddress
 stands-law m q zero = refl
-stands-law m q (suc n) = ap (pick (addressAt m (24 * n) (q .ca) (q .ioa)) true) (stands-law m q n)
+stands-law m q (suc n) = ap (pick (hasAddress m (24 * n) (q .ca) (q .ioa)) true) (stands-law m q n)
 
 -- the turns of the search
-pub stands-hit : (m : List ℕ) (ca ioa left : ℕ) → 0 < left → addressAt m (24 * (left - 1)) ca ioa ≡ true → standsBefore m ca ioa left ≡ true
+pub stands-hit : (m : List ℕ) (ca ioa left : ℕ) → 0 < left → hasAddress m (24 * (left - 1)) ca ioa ≡ true → standsBefore m ca ioa left ≡ true
 unfolding standsBefore
 stands-hit m ca ioa left h e = let f : left ≡ suc (left - 1) = omega arith in ap (standsBefore m ca ioa) f ∙ simp e
 
-pub stands-on : (m : List ℕ) (ca ioa left : ℕ) → 0 < left → addressAt m (24 * (left - 1)) ca ioa ≡ false → standsBefore m ca ioa left ≡ standsBefore m ca ioa (left - 1)
+pub stands-on : (m : List ℕ) (ca ioa left : ℕ) → 0 < left → hasAddress m (24 * (left - 1)) ca ioa ≡ false → standsBefore m ca ioa left ≡ standsBefore m ca ioa (left - 1)
 unfolding standsBefore
 stands-on m ca ioa left h e = let f : left ≡ suc (left - 1) = omega arith in ap (standsBefore m ca ioa) f ∙ simp e
 

@@ -1,29 +1,24 @@
 -- A batch: requests that passed their own tests stay ready while those before them are taken in, so the table stays good at every turn. Assumes nothing.
-use mathlib.Core.Path.{_≡_, refl, sym, ap, _∙_, subst}
-use mathlib.Core.List.{List, [], _∷_, _++_, map}
+use mathlib.Core.Path.{_≡_, refl, sym, ap, _∙_}
+use mathlib.Core.List.{List, [], _∷_}
 use mathlib.Core.Bool.{Bool, true, false}
-use mathlib.Core.Option.{Option, none, some}
+use mathlib.Core.Option.{Option, some}
 use Prim.Native.Nat.{ℕ, _+_}
 use native.Mathlib.Omega.{arith}
 use lib.Dec.{eqb}
-use borrow.Author.Tests.{eqb-true, eqb-false, eq-eqb, ne-eqb}
+use borrow.Author.Tests.{eqb-true, eqb-false}
 use Rattle.limits.specs.Test.{_&_, pick}
 use Rattle.limits.specs.Outcome.{isDone}
-use Rattle.limits.specs.Share.{admissionIn}
-use Rattle.limits.specs.declared.share.Admission.the-variants.{Admitted}
-use Rattle.limits.specs.declared.outcome.Outcome.{Outcome}
 use Rattle.limits.specs.declared.outcome.Outcome.the-variants.{Done, AddressTwice}
 use Rattle.limits.proofs.Outcomes.{not-both, first-done, done-is}
-use Rattle.model.specs.declared.Point.{Point}
 use Rattle.model.specs.declared.Request.{Request}
-use Rattle.model.specs.Place.{pointOk}
 use Rattle.model.specs.Request.{ownFault, pointOf}
-use Rattle.table.specs.Table.{Station, Table, shareOf}
-use Rattle.table.specs.Change.{stationOf, inStation, withPoints, changed, known, insertIn, added}
+use Rattle.table.specs.Table.{Station, Table}
+use Rattle.table.specs.Change.{stationOf, inStation, withPoints, withStations, changed, known, insertIn, added}
 use Rattle.table.proofs.Parse.{Good}
 use Rattle.table.proofs.Change.{changed-station, other-station, known-insert}
-use Rattle.registry.specs.Effect.{Effect, firstFault}
-use Rattle.registry.specs.Registry.{isPlanned, isRegistered, admissionOutcome, roomFault, registeredFault, requestOutcome, withRequest, standsIn, batchFault, ownTests, roomTests, registering, registeringAll}
+use Rattle.registry.specs.Effect.{Effect, refused}
+use Rattle.registry.specs.Registry.{isPlanned, isRegistered, roomFault, withRequest, standsIn, batchFault, ownTests, roomTests}
 use Rattle.registry.specs.History.{Twelve, AllTwelve, heldAt, requestsOf}
 use Rattle.registry.proofs.Requests.{Accepted, accepted-good, held-added, described, planned-is, admitted-is, unregistered-is}
 
@@ -98,7 +93,7 @@ unfolding added changed isPlanned isRegistered _&_ pointOf
 passes-like t q r s e x p = by-test (eqb (q .ca) (r .ca)) refl x
   where
     by-test : (b : Bool) → eqb (q .ca) (r .ca) ≡ b → (b & eqb (q .ioa) (r .ioa)) ≡ false
-        → Passes (record { capacity = t .capacity; stations = inStation (q .ca) (withPoints (insertIn (pointOf q))) (t .stations) }) r
+        → Passes (withStations (inStation (q .ca) (withPoints (insertIn (pointOf q))) (t .stations)) t) r
     by-test true b x′ =
         let c : q .ca ≡ r .ca = eqb-true _ _ b in
         let old : stationOf (r .ca) (t .stations) ≡ some s = rw (← c) e in
@@ -172,3 +167,16 @@ room-tests-good t i (q ∷ qs) g (ready-more p x y) w e =
         → Goal (pick b (roomTests (withRequest t q) (i + 1) qs) (record { outcome = roomFault t (stationOf (q .ca) (t .stations)); place = i; after = t }))
     by-test ih true d e′ = ih (done-is _ d) e′
     by-test ih false d e′ = not-both (sym d ∙ ap isDone e′)
+
+-- ---- the settings
+
+-- A batch keeps the table's settings.
+pub room-settings : (t : Table) (i : ℕ) (qs : List Request) → roomTests t i qs .after .settings ≡ t .settings
+unfolding roomTests added changed
+room-settings t i [] = refl
+room-settings t i (q ∷ qs) = by-test (room-settings (withRequest t q) (i + 1) qs) (isDone (roomFault t (stationOf (q .ca) (t .stations))))
+  where
+    by-test : roomTests (withRequest t q) (i + 1) qs .after .settings ≡ t .settings
+        → (b : Bool) → pick b (roomTests (withRequest t q) (i + 1) qs) (refused (roomFault t (stationOf (q .ca) (t .stations))) i t) .after .settings ≡ t .settings
+    by-test ih true = ih
+    by-test ih false = refl

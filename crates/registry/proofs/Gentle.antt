@@ -1,7 +1,7 @@
 -- Gentle changes: those of points' values, which leave every station as many points in their order. A good table stays good and every holding
 -- stays, at one station or at all of them; so commands are quiet calls. Assumes nothing.
-use mathlib.Core.Path.{_≡_, refl, sym, ap, ap₂, _∙_, subst}
-use mathlib.Core.List.{List, [], _∷_, _++_, map}
+use mathlib.Core.Path.{_≡_, refl, sym, ap, ap₂, _∙_}
+use mathlib.Core.List.{List, [], _∷_, map}
 use mathlib.Core.Bool.{Bool, true, false}
 use Prim.Native.Nat.{ℕ, suc, _+_, _-_, _≤_}
 use native.Mathlib.Omega.{arith}
@@ -12,7 +12,7 @@ use Rattle.limits.proofs.Tests.{both, join}
 use Rattle.model.specs.declared.Point.{Point}
 use Rattle.model.specs.Place.{pointOk}
 use Rattle.table.specs.Table.{Station, Table, held, unmet, reserved, rising, allRising, numbersOk, planOk, sharesOk}
-use Rattle.table.specs.Change.{inStation, withPoints, changed}
+use Rattle.table.specs.Change.{inStation, withPoints, withStations, changed}
 use Rattle.table.proofs.Parse.{Good}
 use Rattle.registry.specs.History.{Holding, holdingOf}
 
@@ -38,7 +38,7 @@ length-is (s ∷ ss) = ap suc (length-is ss)
 
 -- A table with the holdings of a good one, whose points rise, is good.
 pub good-like : (t : Table) (ss : List Station) → Good t → map holdingOf ss ≡ map holdingOf (t .stations) → allRising ss ≡ true
-    → Good (record { capacity = t .capacity; stations = ss })
+    → Good (withStations ss t)
 good-like t ss g e r =
     let k : ℕ = t .capacity in
     let h : total held ss ≡ total held (t .stations) =
@@ -55,6 +55,7 @@ good-like t ss g e r =
     let high : length (t .stations) ≤ 64 = g .s-high in
     let few : total held (t .stations) ≤ k = g .few in
     record {
+      settings = g .settings;
       k-low = g .k-low;
       k-high = g .k-high;
       s-low = omega arith;
@@ -113,7 +114,7 @@ module _ (f : List Point → List Point) (w : Gentle f) where
 
   -- At every station.
   pub gentle-everywhere : (t : Table) → Good t
-      → Good (record { capacity = t .capacity; stations = map (withPoints f) (t .stations) }) × (map holdingOf (map (withPoints f) (t .stations)) ≡ map holdingOf (t .stations))
+      → Good (withStations (map (withPoints f) (t .stations)) t) × (map holdingOf (map (withPoints f) (t .stations)) ≡ map holdingOf (t .stations))
   gentle-everywhere t g =
       (good-like t (map (withPoints f) (t .stations)) g (holdings-all (t .stations)) (rises-all (t .stations) (g .rises)), holdings-all (t .stations))
 

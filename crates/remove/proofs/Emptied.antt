@@ -129,8 +129,3 @@ take-all-out-bounds t m g l =
     let room : 64 + 48 * t .capacity + 8 * length (t .stations) ≤ length m = l .room in
     let few : total held (t .stations) ≤ t .capacity = g .few in
     (omega arith, omega arith)
-
--- No point is held afterwards.
-pub emptied-held : (t : Table) → total held (emptied t .stations) ≡ 0
-unfolding emptied bare
-emptied-held t = bare-held (t .stations)

@@ -4,25 +4,24 @@ use mathlib.Core.Path.{_≡_, sym, ap, _∙_}
 use mathlib.Core.List.{List, _++_}
 use mathlib.Core.Bool.{true}
 use mathlib.Core.Option.{some}
-use Prim.Native.Nat.{ℕ, _+_, _*_, _≤_, _<_}
-use native.Mathlib.Omega.{arith}
+use Prim.Native.Nat.{ℕ, _+_, _*_, _≤_}
 use lib.ListN.{length, drop}
 use Rattle.limits.specs.Test.{total}
-use Rattle.octets.specs.Number.{two, Octets}
+use Rattle.octets.specs.Number.{Octets}
+use Rattle.layout.specs.Layout.{capacityIn, pointsIn, sizeIn}
 use Rattle.model.specs.declared.Point.{Point}
 use Rattle.table.specs.Table.{Station, Table, held, rising, image}
 use Rattle.table.specs.Memory.{pointsAt, tableOf, wellFormed}
 use Rattle.table.specs.Change.{stationOf, seekIn, known, removed, emptied}
-use Rattle.table.proofs.Parse.{Good, Laid, holds, parse-some}
-use Rattle.table.proofs.Change.{good-removed, good-emptied}
+use Rattle.table.proofs.Parse.{holds, parse-some}
 use Rattle.seats.specs.declared.Seat.the-variants.{Here}
 use Rattle.seats.specs.declared.Spot.the-variants.{Held}
 use Rattle.seats.specs.Seats.{seatAt}
 use Rattle.seats.specs.Find.{findAt}
-use Rattle.seats.proofs.Laws.{Seated, Seen, seat-law}
+use Rattle.seats.proofs.Laws.{Seated, Seen, seat-law, Standing, standing}
 use Rattle.seats.proofs.Halving.{HeldAt, held-law}
-use Rattle.remove.specs.Remove.{takenOut, allTakenOut}
-use Rattle.remove.proofs.Removed.{StandsAt, take-out-bounds, taken-out-parsed}
+use Rattle.remove.specs.Remove.{takenOut, allTakenOut, Removable}
+use Rattle.remove.proofs.Removed.{take-out-bounds, taken-out-parsed}
 use Rattle.remove.proofs.Emptied.{take-all-out-bounds, all-taken-out-parsed}
 
 -- A point found at `at` in the station of index i, which holds h points, and what taking it out does.
@@ -30,9 +29,8 @@ pub record TakenOut (m : List ℕ) (ca ioa i h at : ℕ) : Type 0 where
   pub station : Station
   pub is-station : stationOf ca (tableOf m .stations) ≡ some station
   pub is-known : known ioa (station .points) ≡ true
-  pub bounds : (64 + 48 * two m 4 + 8 * two m 6 ≤ length m) × (two m 8 ≤ two m 4) × (i < two m 6) × (0 < h) × (h < 65536) × (64 ≤ at) × (at + 48 ≤ 64 + 48 * two m 8)
+  pub bounds : Removable m i h at
   pub memory : takenOut m i h at ≡ image (removed (tableOf m) ca ioa) ++ drop (length (image (tableOf m))) m
-  pub is-good : Good (removed (tableOf m) ca ioa)
 
 pub take-out-law : (m : List ℕ) (ca ioa i first h at : ℕ) → Octets m → wellFormed m ≡ true → seatAt m ca ≡ Here i first h → findAt m first h ioa ≡ Held at
     → TakenOut m ca ioa i h at
@@ -46,28 +44,24 @@ take-out-law m ca ioa i first h at o w es ef =
     let spot : HeldAt m first h ioa at (pointsAt m first h) = held-law m first h ioa at (ap (rising 0) same ∙ seen .rises) ef in
     let k : known ioa (s .points) ≡ true = ap (known ioa) (sym same) ∙ spot .is-known in
     let place : at ≡ first + 48 * seekIn ioa (s .points) = spot .place ∙ ap (λ (ps : List Point). first + 48 * seekIn ioa ps) same in
-    let pl : first ≡ 64 + 48 * total held (d .found .before) = d .place in
-    let ix : i ≡ 0 + length (d .found .before) = d .index in
-    let z : StandsAt t ca ioa s (d .found) i h at = record { index = omega arith; count = d .count; place = omega arith } in
+    let z : Standing (t .stations) ca ioa s (d .found) i h at = standing (t .stations) ca ioa i first h at d place in
     record {
       station = s;
       is-station = d .is-station;
       is-known = k;
       bounds = take-out-bounds t m ca ioa s (d .found) i h at (gl .0) (gl .1) k z;
       memory = taken-out-parsed m t ca ioa s (d .found) i h at o (parse-some m w) k z;
-      is-good = good-removed t ca ioa s (gl .0) (d .found) k;
     }
 
 -- What taking all points out does.
 pub record AllTakenOut (m : List ℕ) : Type 0 where
-  pub bounds : (64 + 48 * two m 4 + 8 * two m 6 ≤ length m) × (two m 8 ≤ two m 4)
-  pub count : two m 8 ≡ total held (tableOf m .stations)
+  pub bounds : (sizeIn m ≤ length m) × (pointsIn m ≤ capacityIn m)
+  pub count : pointsIn m ≡ total held (tableOf m .stations)
   pub memory : allTakenOut m ≡ image (emptied (tableOf m)) ++ drop (length (image (tableOf m))) m
-  pub is-good : Good (emptied (tableOf m))
 
 pub take-all-out-law : (m : List ℕ) → Octets m → wellFormed m ≡ true → AllTakenOut m
 take-all-out-law m o w =
     let t : Table = tableOf m in
     let gl = holds m o w in
     let a = all-taken-out-parsed m t o (parse-some m w) in
-    record { bounds = take-all-out-bounds t m (gl .0) (gl .1); count = a .0; memory = a .1; is-good = good-emptied t (gl .0) }
+    record { bounds = take-all-out-bounds t m (gl .0) (gl .1); count = a .0; memory = a .1 }

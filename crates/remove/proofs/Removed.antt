@@ -1,6 +1,6 @@
 -- One point taken out: the memory after it is the image of the table without the point. Assumes nothing.
 use mathlib.Core.Path.{_≡_, refl, sym, ap, _∙_}
-use mathlib.Core.List.{List, [], _∷_, _++_, map, append-assoc}
+use mathlib.Core.List.{List, [], _∷_, _++_, append-assoc}
 use mathlib.Core.Bool.{Bool, true, false}
 use mathlib.Core.Option.{some}
 use Prim.Native.Nat.{ℕ, suc, _+_, _*_, _-_, _≤_, _<_}
@@ -16,13 +16,14 @@ use Rattle.octets.proofs.Laws.{over-at, lowered-cleared}
 use Rattle.model.specs.declared.Point.{Point}
 use Rattle.model.specs.Place.{placeOf}
 use Rattle.table.specs.Table.{Station, Table, held, rising, placesOf, bodies, eight, entries, head, image}
-use Rattle.table.specs.Change.{inStation, withPoints, changed, seekIn, known, removeIn, removed, emptied}
+use Rattle.table.specs.Change.{withPoints, changed, seekIn, known, removeIn, removed}
 use Rattle.table.proofs.Points.{length-places}
 use Rattle.table.proofs.Stations.{length-bodies, length-entries}
 use Rattle.table.specs.Memory.{parse}
 use Rattle.table.proofs.Parse.{Good, good-is, Laid, laid, parse-sound}
-use Rattle.table.proofs.Change.{Found, stations-split, station-rises, remove-length}
-use Rattle.remove.specs.Remove.{closedUp, takenOut}
+use Rattle.table.proofs.Change.{Found, stations-split, station-rises}
+use Rattle.seats.proofs.Laws.{Standing}
+use Rattle.remove.specs.Remove.{closedUp, takenOut, Removable}
 use Rattle.table.proofs.Cut.{six, head-over, places-append, places-at, held-at, image-at}
 
 -- ---- the points
@@ -200,16 +201,10 @@ module _ (k : ℕ) (before : List Station) (s : Station) (after : List Station) 
       ∙ head-over k S n (n - 1) (bodies before ++ ((P ++ Q) ++ (bodies after ++ ((replicate 48 0 ++ Z) ++ (entries before ++ ((six′ ++ pair (held s - 1)) ++ R))))))
       ∙ sym cut-removed
 
--- Where the point's place stands: the station's index and held, and the place's offset by the points that lie before it.
-pub record StandsAt (t : Table) (ca ioa : ℕ) (s : Station) (w : Found ca (t .stations) s) (i h at : ℕ) : Type 0 where
-  pub index : i ≡ length (w .before)
-  pub count : h ≡ held s
-  pub place : at ≡ 64 + 48 * (total held (w .before) + seekIn ioa (s .points))
-
 -- What `take_out` asks of the numbers.
 pub take-out-bounds : (t : Table) (m : List ℕ) (ca ioa : ℕ) (s : Station) (w : Found ca (t .stations) s) (i h at : ℕ) → Good t → Laid m t
-    → known ioa (s .points) ≡ true → StandsAt t ca ioa s w i h at
-    → (64 + 48 * two m 4 + 8 * two m 6 ≤ length m) × (two m 8 ≤ two m 4) × (i < two m 6) × (0 < h) × (h < 65536) × (64 ≤ at) × (at + 48 ≤ 64 + 48 * two m 8)
+    → known ioa (s .points) ≡ true → Standing (t .stations) ca ioa s w i h at
+    → Removable m i h at
 take-out-bounds t m ca ioa s w i h at g l k z =
     let p : Parted ioa (s .points) = parted ioa 0 (s .points) (station-rises t ca s g w) k in
     let e4 : two m 4 ≡ t .capacity = l .is-k in
@@ -229,7 +224,7 @@ take-out-bounds t m ca ioa s w i h at g l k z =
 
 -- Taking the place of a known point out of a table's image leaves the image of the table without the point.
 pub taken-out-image : (t : Table) (rest : List ℕ) (ca ioa : ℕ) (s : Station) (w : Found ca (t .stations) s) (i h at : ℕ) → Good t
-    → known ioa (s .points) ≡ true → StandsAt t ca ioa s w i h at → takenOut (image t ++ rest) i h at ≡ image (removed t ca ioa) ++ rest
+    → known ioa (s .points) ≡ true → Standing (t .stations) ca ioa s w i h at → takenOut (image t ++ rest) i h at ≡ image (removed t ca ioa) ++ rest
 unfolding takenOut removed changed
 taken-out-image t rest ca ioa s w i h at g k z =
     let m : List ℕ = image t ++ rest in
@@ -245,38 +240,7 @@ taken-out-image t rest ca ioa s w i h at g k z =
 
 -- The same of a memory that holds a table: what lies past the table's octets stays.
 pub taken-out-parsed : (m : List ℕ) (t : Table) (ca ioa : ℕ) (s : Station) (w : Found ca (t .stations) s) (i h at : ℕ) → Octets m → parse m ≡ some t
-    → known ioa (s .points) ≡ true → StandsAt t ca ioa s w i h at → takenOut m i h at ≡ image (removed t ca ioa) ++ drop (length (image t)) m
+    → known ioa (s .points) ≡ true → Standing (t .stations) ca ioa s w i h at → takenOut m i h at ≡ image (removed t ca ioa) ++ drop (length (image t)) m
 taken-out-parsed m t ca ioa s w i h at o e k z =
     let q = parse-sound m t o e in
     ap (λ (x : List ℕ). takenOut x i h at) (q .1) ∙ taken-out-image t (drop (length (image t)) m) ca ioa s w i h at (good-is t (q .0)) k z
-
--- ---- what a removal leaves
-
-plan-in : (ca : ℕ) (f : List Point → List Point) (ss : List Station)
-    → map (withPoints (λ (ps : List Point). [])) (inStation ca (withPoints f) ss) ≡ map (withPoints (λ (ps : List Point). [])) ss
-unfolding inStation
-plan-in ca f [] = refl
-plan-in ca f (s ∷ ss) = by-test (plan-in ca f ss) (eqb (s .ca) ca)
-  where
-    by-test : map (withPoints (λ (ps : List Point). [])) (inStation ca (withPoints f) ss) ≡ map (withPoints (λ (ps : List Point). [])) ss → (b : Bool)
-        → map (withPoints (λ (ps : List Point). [])) (pick b (withPoints f s ∷ ss) (s ∷ inStation ca (withPoints f) ss))
-        ≡ withPoints (λ (ps : List Point). []) s ∷ map (withPoints (λ (ps : List Point). [])) ss
-    by-test ih true = refl
-    by-test ih false = ap (λ (l : List Station). withPoints (λ (ps : List Point). []) s ∷ l) ih
-
--- A change of one station's points keeps K and the plan: without points the two tables are the same.
-pub changed-plan : (t : Table) (ca : ℕ) (f : List Point → List Point) → emptied (changed t ca f) ≡ emptied t
-unfolding emptied changed
-changed-plan t ca f = ap (λ (ss : List Station). record { capacity = t .capacity; stations = ss }) (plan-in ca f (t .stations))
-
--- One point less is held.
-pub removed-held : (t : Table) (ca ioa : ℕ) (s : Station) → Found ca (t .stations) s → known ioa (s .points) ≡ true
-    → total held (removed t ca ioa .stations) + 1 ≡ total held (t .stations)
-unfolding removed
-removed-held t ca ioa s w k =
-    let s′ : Station = withPoints (removeIn ioa) s in
-    let less : length (removeIn ioa (s .points)) + 1 ≡ held s = remove-length ioa (s .points) k in
-    let e : total held (changed t ca (removeIn ioa) .stations) ≡ total held (w .before ++ (s′ ∷ w .after)) = ap (total held) (stations-split t ca (removeIn ioa) s w) in
-    let a : total held (t .stations) ≡ total held (w .before) + (held s + total held (w .after)) = ap (total held) (w .split) ∙ held-at (w .before) s (w .after) in
-    let b : total held (w .before ++ (s′ ∷ w .after)) ≡ total held (w .before) + (length (removeIn ioa (s .points)) + total held (w .after)) = held-at (w .before) s′ (w .after) in
-    omega arith

@@ -8,7 +8,7 @@ use native.Mathlib.Nat.{zero-mul, suc-mul}
 use native.Mathlib.Numerals.{unary-clauses}
 use lib.ListN.{length, take, drop, length-append}
 use Rattle.limits.specs.Test.{_&_, pick, total}
-use Rattle.report.specs.Packing.{selected, joined, flat, cut, chunks, Full, Each, counted}
+use Rattle.report.specs.Packing.{selected, joined, cut, chunks, Full, Each, counted}
 
 module _ {A : Type 0} (P : A → Type 0) where
   pub each-append : (xs ys : List A) → Each P xs → Each P ys → Each P (xs ++ ys)
@@ -91,13 +91,13 @@ full-each most [] f = tt
 full-each most (x ∷ []) f = ((f .0, f .1), tt)
 full-each most (x ∷ y ∷ ys) f = ((f .0, omega (arith, f .1)), full-each most (y ∷ ys) (f .2))
 
--- lists of w elements each, one after another
-pub length-flat : {A : Type 0} (w : ℕ) (xs : List (List A)) → Each (λ x. length x ≡ w) xs → length (flat xs) ≡ length xs * w
+-- lists of w elements of each, one after another
+pub length-even : {A B : Type 0} (f : A → List B) (w : ℕ) (xs : List A) → Each (λ x. length (f x) ≡ w) xs → length (joined f xs) ≡ length xs * w
 unfolding joined Each
-length-flat w [] e = sym (zero-mul w)
-length-flat w (x ∷ xs) e =
-    let ih : length (flat xs) ≡ length xs * w = length-flat w xs (e .1) in
-    let h : length x ≡ w = e .0 in
+length-even f w [] e = sym (zero-mul w)
+length-even f w (x ∷ xs) e =
+    let ih : length (joined f xs) ≡ length xs * w = length-even f w xs (e .1) in
+    let h : length (f x) ≡ w = e .0 in
     let s : suc (length xs) * w ≡ length xs * w + w = suc-mul (length xs) w in
     simp length-append (omega arith)
 

@@ -13,7 +13,7 @@ use Rattle.limits.proofs.Tests.{both, join}
 use Rattle.model.specs.declared.Point.{Point}
 use Rattle.table.specs.Table.{rising}
 use Rattle.report.specs.Packing.{selected, joined, Each, counted}
-use Rattle.report.specs.Selection.{among, Above, Ascending}
+use Rattle.report.specs.Selection.{among, Above, StrictlyAscending}
 use Rattle.report.specs.Report.{ofKind, ordered}
 use Rattle.report.specs.Order.{Before, InOrder, Climbing}
 use Rattle.report.proofs.Each.{each-append, each-selected, each-so, each-both, each-joined, selected-pass, selected-none, selected-selected, counted-append}
@@ -110,9 +110,9 @@ none-counted f [] = refl
 none-counted f (p ∷ ps) = none-counted f ps
 
 -- EXACTLY ONCE: whatever test is asked, as many points of the ordered list pass as points of the list given that have a type of the set
-pub ordered-counted : (f : Point → Bool) (types : List ℕ) → Ascending types → (ps : List Point)
+pub ordered-counted : (f : Point → Bool) (types : List ℕ) → StrictlyAscending types → (ps : List Point)
     → counted f (ordered types ps) ≡ counted (λ p. among types (p .kind) & f p) ps
-unfolding Ascending selected
+unfolding StrictlyAscending selected
 ordered-counted f [] a ps = ap (counted f) (ordered-nil ps) ∙ sym (none-counted f ps)
 ordered-counted f (k ∷ ks) a ps =
     ap (counted f) (ordered-cons k ks ps)
@@ -174,8 +174,8 @@ unfolding InOrder
 nil-in-order = tt
 
 -- IN ORDER: by ascending type, and within a type by ascending address
-pub ordered-in-order : (types : List ℕ) → Ascending types → (ps : List Point) → Climbing ps → InOrder (ordered types ps)
-unfolding Ascending
+pub ordered-in-order : (types : List ℕ) → StrictlyAscending types → (ps : List Point) → Climbing ps → InOrder (ordered types ps)
+unfolding StrictlyAscending
 ordered-in-order [] a ps c = rw (ordered-nil ps) nil-in-order
 ordered-in-order (k ∷ ks) a ps c =
     rw (ordered-cons k ks ps)
@@ -219,7 +219,7 @@ alone f p e u (x ∷ before) after c =
     fails false w = w
 
 -- EACH SELECTED POINT of a station whose type is in the set stands in the report exactly once
-pub each-once : (test : Point → Bool) (types : List ℕ) → Ascending types → (before after : List Point) (p : Point)
+pub each-once : (test : Point → Bool) (types : List ℕ) → StrictlyAscending types → (before after : List Point) (p : Point)
     → Climbing (before ++ (p ∷ after)) → test p ≡ true → among types (p .kind) ≡ true
     → counted (λ q. eqb (q .ioa) (p .ioa)) (ordered types (selected test (before ++ (p ∷ after)))) ≡ 1
 each-once test types a before after p c e m =

@@ -1,55 +1,16 @@
--- The laws of joining, filtering and cutting lists. Packing is proved here once, over the most objects of a piece. Assumes nothing.
+-- The laws of cutting lists. Packing is proved here once, over the most objects of a piece. Assumes nothing.
 use mathlib.Core.Path.{_≡_, refl, sym, ap, ap₂, _∙_}
-use mathlib.Core.List.{List, [], _∷_, _++_, map, append-assoc}
+use mathlib.Core.List.{List, [], _∷_, _++_, map}
 use Prim.Native.Nat.{ℕ, zero, suc, _+_, _-_, _/_, _≤_, _<_, min}
 use native.Mathlib.Omega.{arith}
 use native.Mathlib.Numerals.{add-one}
 use native.Mathlib.Decide.{decLe}
 use native.Mathlib.Nat.{not-suc-le-zero, add-div-right, div-eq-of-lt}
-use lib.ListN.{length, take, drop, length-append, length-take, length-drop, take-append-drop}
-use Rattle.limits.specs.Test.{total}
+use lib.ListN.{length, take, drop, length-take, length-drop, length-map, take-append-drop}
 use Rattle.limits.specs.Size.{asdusOf}
 use Rattle.report.specs.Packing.{joined, flat, cut, chunks, Full}
-
--- ---- joined lists
-
-module _ {A B : Type 0} (f : A → List B) where
-  pub joined-append : (xs ys : List A) → joined f (xs ++ ys) ≡ joined f xs ++ joined f ys
-  unfolding joined
-  joined-append [] ys = refl
-  joined-append (x ∷ xs) ys = ap (λ (l : List B). f x ++ l) (joined-append xs ys) ∙ sym (append-assoc (f x) (joined f xs) (joined f ys))
-
-  pub length-joined : (xs : List A) → length (joined f xs) ≡ total (λ x. length (f x)) xs
-  unfolding joined total
-  length-joined [] = refl
-  length-joined (x ∷ xs) =
-      let ih : length (joined f xs) ≡ total (λ (y : A). length (f y)) xs = length-joined xs in
-      simp length-append (omega arith)
-
-  pub joined-map : {C : Type 0} (g : C → A) (xs : List C) → joined f (map g xs) ≡ joined (λ x. f (g x)) xs
-  unfolding joined
-  joined-map g [] = refl
-  joined-map g (x ∷ xs) = ap (λ (l : List B). f (g x) ++ l) (joined-map g xs)
-
-  pub joined-joined : {C : Type 0} (g : C → List A) (xs : List C) → joined f (joined g xs) ≡ joined (λ x. joined f (g x)) xs
-  unfolding joined
-  joined-joined g [] = refl
-  joined-joined g (x ∷ xs) = joined-append (g x) (joined g xs) ∙ ap (λ (l : List B). joined f (g x) ++ l) (joined-joined g xs)
-
--- what is joined of equal lists is equal
-pub joined-same : {A B : Type 0} (f g : A → List B) → ((x : A) → f x ≡ g x) → (xs : List A) → joined f xs ≡ joined g xs
-unfolding joined
-joined-same f g e [] = refl
-joined-same f g e (x ∷ xs) = ap₂ (λ p q. p ++ q) (e x) (joined-same f g e xs)
-
-pub map-joined : {A B C : Type 0} (f : B → C) (g : A → List B) (xs : List A) → map f (joined g xs) ≡ joined (λ x. map f (g x)) xs
-unfolding joined
-map-joined f g [] = refl
-map-joined {C = C} f g (x ∷ xs) = map-append (g x) (joined g xs) ∙ ap (λ (l : List C). map f (g x) ++ l) (map-joined f g xs)
-  where
-    map-append : (ys zs : List _) → map f (ys ++ zs) ≡ map f ys ++ map f zs
-    map-append [] zs = refl
-    map-append (y ∷ ys) zs = ap (λ (l : List C). f y ∷ l) (map-append ys zs)
+-- the laws of joined lists, passed on
+pub use Rattle.asdu.proofs.Joined.{joined-append, length-joined, joined-map, joined-joined, joined-same, map-joined}
 
 -- ---- pieces
 
@@ -148,3 +109,25 @@ module _ {A : Type 0} (most : ℕ) (pos : 0 < most) where
   pub chunks-count : (xs : List A) → length (chunks most xs) ≡ asdusOf most (length xs)
   unfolding chunks
   chunks-count xs = cut-count (length xs) xs (omega arith)
+
+-- the pieces of a mapped list are the pieces, mapped
+module _ {A B : Type 0} (f : A → B) (most : ℕ) where
+  map-take : (n : ℕ) (xs : List A) → map f (take n xs) ≡ take n (map f xs)
+  map-take zero xs = refl
+  map-take (suc n) [] = refl
+  map-take (suc n) (x ∷ xs) = ap (λ (l : List B). f x ∷ l) (map-take n xs)
+
+  map-drop : (n : ℕ) (xs : List A) → map f (drop n xs) ≡ drop n (map f xs)
+  map-drop zero xs = refl
+  map-drop (suc n) [] = refl
+  map-drop (suc n) (x ∷ xs) = map-drop n xs
+
+  map-cut : (n : ℕ) (xs : List A) → map (map f) (cut n most xs) ≡ cut n most (map f xs)
+  unfolding cut
+  map-cut zero xs = refl
+  map-cut (suc n) [] = refl
+  map-cut (suc n) (x ∷ xs) = ap₂ (λ (p : List B) (l : List (List B)). p ∷ l) (map-take most (x ∷ xs)) (map-cut n (drop most (x ∷ xs)) ∙ ap (cut n most) (map-drop most (x ∷ xs)))
+
+  pub chunks-map : (xs : List A) → chunks most (map f xs) ≡ map (map f) (chunks most xs)
+  unfolding chunks
+  chunks-map xs = ap (λ (n : ℕ). cut n most (map f xs)) (length-map xs f) ∙ sym (map-cut (length xs) xs)

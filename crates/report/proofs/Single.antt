@@ -4,39 +4,36 @@ use mathlib.Core.List.{List, [], _∷_}
 use mathlib.Core.Bool.{Bool, true, false}
 use Prim.Native.Nat.{ℕ, _+_, _≤_, _<_}
 use native.Mathlib.Omega.{arith}
-use lib.ListN.{length, length-append}
+use lib.ListN.{length}
 use lib.Dec.{eqb}
 use borrow.Author.Tests.{eqb-true, leb-true}
 use Rattle.limits.specs.Test.{pick}
 use Rattle.limits.specs.Size.{pointOctets}
 use Rattle.limits.proofs.Tests.{both}
-use Rattle.asdu.specs.Header.{header, object, asdu}
+use Rattle.asdu.specs.Header.{header, objectOctets, asduOctets}
+use Rattle.asdu.proofs.Joined.{joined-one}
+use Rattle.asdu.proofs.Laws.{length-asdu}
 use Rattle.model.specs.declared.Point.{Point}
 use Rattle.table.specs.Table.{Station, held, planOk, numbersOk}
-use Rattle.report.specs.Packing.{joined, flat, Each}
-use Rattle.report.specs.Report.{objectOf, octetsOf}
+use Rattle.report.specs.Packing.{joined, Each}
+use Rattle.report.specs.Report.{objectOf, dataAsdu}
 use Rattle.report.specs.Single.{single, endOfInitializationAsdu, stationCommonAddress}
 use Rattle.report.proofs.Each.{each-so}
-use Rattle.report.proofs.Report.{Whole, length-object, length-octets}
-
--- the octets of one object alone
-flat-one : (x : List ℕ) → length (flat (x ∷ [])) ≡ length x
-unfolding joined
-flat-one x = simp length-append (omega arith)
+use Rattle.report.proofs.Report.{Whole, length-object}
 
 -- one point in an ASDU of its own takes nine octets and its element
-pub length-single : (cause ca : ℕ) (p : Point) → Whole p → length (single cause ca p) ≡ 9 + pointOctets (p .kind)
+pub length-single : (cause ca : ℕ) (p : Point) → Whole p → length (asduOctets (single cause ca p)) ≡ 9 + pointOctets (p .kind)
 unfolding single
 length-single cause ca p w =
-    let a : length (octetsOf cause ca (record { kind = p .kind; objects = objectOf p ∷ [] })) ≡ 6 + length (flat (objectOf p ∷ [])) =
-    length-octets cause ca (record { kind = p .kind; objects = objectOf p ∷ [] }) in
-    let b : length (flat (objectOf p ∷ [])) ≡ length (objectOf p) = flat-one (objectOf p) in
-    let c : length (objectOf p) ≡ 3 + pointOctets (p .kind) = length-object p w in
+    let a : length (asduOctets (dataAsdu (p .kind) cause ca (objectOf p ∷ []))) ≡ 6 + length (joined objectOctets (objectOf p ∷ [])) =
+    length-asdu (dataAsdu (p .kind) cause ca (objectOf p ∷ [])) in
+    let b : length (joined objectOctets (objectOf p ∷ [])) ≡ length (objectOctets (objectOf p)) = ap length (joined-one objectOctets (objectOf p)) in
+    let c : length (objectOctets (objectOf p)) ≡ 3 + pointOctets (p .kind) = length-object p w in
     omega arith
 
 -- the end of initialisation takes ten octets
-pub length-end : (ca : ℕ) → length (endOfInitializationAsdu ca) ≡ 10
-unfolding endOfInitializationAsdu asdu header object
+pub length-end : (ca : ℕ) → length (asduOctets (endOfInitializationAsdu ca)) ≡ 10
+unfolding endOfInitializationAsdu asduOctets header objectOctets joined
 length-end ca = refl
 
 -- ---- the smallest CA with a point

@@ -3,3 +3,4 @@ pub mod Selection
 pub mod Report
 pub mod Order
 pub mod Single
+pub mod Terms

@@ -1,25 +1,19 @@
--- Lists filtered, joined and cut into pieces: the words in which a report is written.
+-- Lists filtered and cut into pieces: the words in which a report is written.
 -- Document 01, 'Octets of an ASDU': a run of objects fills each ASDU but the last, and no ASDU of data is empty.
 use Prim.Native.Nat.{ℕ, zero, suc, _<_, _≤_}
 use mathlib.Core.Path.{_≡_}
-use mathlib.Core.List.{List, [], _∷_, _++_}
+use mathlib.Core.List.{List, [], _∷_}
 use mathlib.Core.Bool.{Bool}
 use lib.ListN.{length, take, drop}
 use Rattle.limits.specs.Test.{pick}
+-- Lists joined, passed on.
+unfoldable pub use Rattle.asdu.specs.Joined.{joined}
+pub use Rattle.asdu.specs.Joined.{flat}
 
 -- The elements that pass a test, in their order.
 unfoldable pub selected : {A : Type 0} → (A → Bool) → List A → List A
 selected test [] = []
 selected test (x ∷ xs) = pick (test x) (x ∷ selected test xs) (selected test xs)
-
--- A list of each, one after another.
-unfoldable pub joined : {A B : Type 0} → (A → List B) → List A → List B
-joined f [] = []
-joined f (x ∷ xs) = f x ++ joined f xs
-
--- Lists one after another.
-abbrev pub flat : {A : Type 0} → List (List A) → List A
-flat xs = joined (λ x. x) xs
 
 -- Pieces of `most` elements and a last one of what is left, at most as many as the first number says.
 unfoldable pub cut : {A : Type 0} → ℕ → ℕ → List A → List (List A)

@@ -41,6 +41,6 @@ Above low [] = Unit
 Above low (k ∷ ks) = (low < k) × Above low ks
 
 -- Type numbers strictly ascending.
-unfoldable pub Ascending : List ℕ → Type 0
-Ascending [] = Unit
-Ascending (k ∷ ks) = Above k ks × Ascending ks
+unfoldable pub StrictlyAscending : List ℕ → Type 0
+StrictlyAscending [] = Unit
+StrictlyAscending (k ∷ ks) = Above k ks × StrictlyAscending ks

@@ -5,26 +5,27 @@ use mathlib.Core.List.{List, [], _∷_}
 use lib.Dec.{eqb}
 use Rattle.limits.specs.Test.{pick}
 use Rattle.asdu.specs.Cause.{spontaneous, initiated, request}
-use Rattle.asdu.specs.Header.{object, asdu}
+use Rattle.asdu.specs.Identification.{endOfInitialization}
+use Rattle.asdu.specs.Header.{Asdu}
 use Rattle.model.specs.declared.Point.{Point}
 use Rattle.table.specs.Table.{Station, held}
-use Rattle.report.specs.Report.{dataHeader, objectOf, octetsOf}
+use Rattle.report.specs.Report.{objectOf, dataAsdu}
 
 -- One point in an ASDU of its own.
-unfoldable pub single : ℕ → ℕ → Point → List ℕ
-single cause ca p = octetsOf cause ca (record { kind = p .kind; objects = objectOf p ∷ [] })
+unfoldable pub single : ℕ → ℕ → Point → Asdu
+single cause ca p = dataAsdu (p .kind) cause ca (objectOf p ∷ [])
 
 -- A value told because it changed: cause 3.
-abbrev pub spontaneousAsdu : ℕ → Point → List ℕ
+abbrev pub spontaneousAsdu : ℕ → Point → Asdu
 spontaneousAsdu ca p = single spontaneous ca p
 
 -- A value told because it was read: cause 5.
-abbrev pub requestedAsdu : ℕ → Point → List ℕ
+abbrev pub requestedAsdu : ℕ → Point → Asdu
 requestedAsdu ca p = single request ca p
 
 -- End of initialisation: type 70, cause 4, IOA 0, octet 0.
-unfoldable pub endOfInitializationAsdu : ℕ → List ℕ
-endOfInitializationAsdu ca = asdu (dataHeader 70 1 initiated ca) (object 0 (0 ∷ []))
+unfoldable pub endOfInitializationAsdu : ℕ → Asdu
+endOfInitializationAsdu ca = dataAsdu endOfInitialization initiated ca (record { ioa = 0; element = 0 ∷ [] } ∷ [])
 
 -- The smallest CA with a point, or 0: stations stand in ascending order.
 unfoldable pub stationCommonAddress : List Station → ℕ

@@ -1,7 +1,10 @@
-// What a report is: which points a command asks for, how their objects are packed into ASDUs, and in which order. The octets are written by the crates above.
+// What a report is: which points a command asks for, of which places and in which terms, how their objects are packed into ASDUs, and in which order. The octets are written by the crates above.
+use layout::COUNTER_OFFSET;
+use layout::GROUP_OFFSET;
 ghost use mathlib.Core.Path.{_≡_};
 ghost use Prim.Native.Nat.{_+_, _≤_};
 ghost use lib.ListN.{length};
+ghost use Rattle.layout.specs.Layout.{placeSize};
 ghost use Rattle.model.specs.Place.{pointAt};
 ghost use Rattle.report.specs.Selection.{selects};
 
@@ -12,14 +15,28 @@ pub enum Selection {
     CounterGroup(u8),
 }
 
+// The n places from `base`: every station's, or one station's own.
+pub struct Reach {
+    pub base: usize,
+    pub n: usize,
+    pub every: bool,
+}
+
+// What all ASDUs of a report have in common: the length limit, the cause and the common address.
+pub struct Terms {
+    pub limit: usize,
+    pub cause: u8,
+    pub ca: u16,
+}
+
 // Does the selection take the point of the place at `at`?
 pub fn selects_at(m: &[u8], at: usize, s: Selection) -> bool
-    requires { ⌜ at + 48 ≤ length (now m) ⌝ }
+    requires { ⌜ at + placeSize ≤ length (now m) ⌝ }
     ensures { λ r. ⌜ r ≡ selects s (pointAt (now (m .entry)) at) ⌝ }
 {
     match s {
         Selection::Every => true,
-        Selection::Group(g) => octets::two_at(m, at + 6) == octets::wide(g),
-        Selection::CounterGroup(g) => m[at + 8] == g,
+        Selection::Group(g) => octets::two_at(m, at + GROUP_OFFSET) == octets::wide(g),
+        Selection::CounterGroup(g) => m[at + COUNTER_OFFSET] == g,
     }
 }

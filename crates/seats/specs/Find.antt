@@ -4,6 +4,7 @@ use mathlib.Core.List.{List}
 use lib.Dec.{eqb, ltb}
 use Rattle.limits.specs.Test.{_&_, pick}
 use Rattle.octets.specs.Number.{three}
+use Rattle.layout.specs.Layout.{placeSize, ioaOffset}
 use Rattle.model.specs.declared.Point.{Point}
 use Rattle.table.specs.Change.{seekIn, known}
 use Rattle.seats.specs.declared.Bounds.{Bounds}
@@ -12,13 +13,13 @@ use Rattle.seats.specs.declared.Spot.the-variants.{Held, Missing}
 
 -- The place of the point with an IOA among points whose places lie from `first`, or where it would go.
 unfoldable pub spotIn : ℕ → ℕ → List Point → Spot
-spotIn first ioa ps = pick (known ioa ps) (Held (first + 48 * seekIn ioa ps)) (Missing (first + 48 * seekIn ioa ps))
+spotIn first ioa ps = pick (known ioa ps) (Held (first + placeSize * seekIn ioa ps)) (Missing (first + placeSize * seekIn ioa ps))
 
 -- ---- as the code finds it: nobody need believe what follows, `find-law` ties it to `spotIn`
 
 -- the IOA of the place of index i from `first`
 unfoldable pub ioaAt : List ℕ → ℕ → ℕ → ℕ
-ioaAt m first i = three m (first + 48 * i + 3)
+ioaAt m first i = three m (first + placeSize * i + ioaOffset)
 
 -- one half of the numbers from `low` up to `high`
 unfoldable pub narrowed : (ℕ → ℕ) → ℕ → ℕ → ℕ → Bounds
@@ -33,7 +34,7 @@ halve key x low high (suc turns) =
 
 -- the answer for index j of n places
 unfoldable pub spotAt : List ℕ → ℕ → ℕ → ℕ → ℕ → Spot
-spotAt m first n ioa j = pick (ltb j n & eqb (ioaAt m first j) ioa) (Held (first + 48 * j)) (Missing (first + 48 * j))
+spotAt m first n ioa j = pick (ltb j n & eqb (ioaAt m first j) ioa) (Held (first + placeSize * j)) (Missing (first + placeSize * j))
 
 unfoldable pub findAt : List ℕ → ℕ → ℕ → ℕ → Spot
 findAt m first n ioa = spotAt m first n ioa (halve (ioaAt m first) ioa 0 n n)

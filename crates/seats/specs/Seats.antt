@@ -3,7 +3,7 @@ use Prim.Native.Nat.{ℕ, zero, suc, _+_, _*_}
 use mathlib.Core.List.{List}
 use lib.Dec.{eqb}
 use Rattle.limits.specs.Test.{pick}
-use Rattle.octets.specs.Number.{two}
+use Rattle.layout.specs.Layout.{headSize, placeSize, stationSize, stationsIn, stationsFrom, caAt, heldAt}
 use Rattle.seats.specs.declared.Seat.{Seat}
 use Rattle.seats.specs.declared.Seat.the-variants.{Here, NotPlanned}
 
@@ -11,8 +11,8 @@ use Rattle.seats.specs.declared.Seat.the-variants.{Here, NotPlanned}
 unfoldable pub seatIn : List ℕ → ℕ → ℕ → ℕ → ℕ → ℕ → Seat
 seatIn m ca i pb sb zero = NotPlanned
 seatIn m ca i pb sb (suc n) =
-    pick (eqb (two m sb) ca) (Here i pb (two m (sb + 6))) (seatIn m ca (i + 1) (pb + 48 * two m (sb + 6)) (sb + 8) n)
+    pick (eqb (caAt m sb) ca) (Here i pb (heldAt m sb)) (seatIn m ca (i + 1) (pb + placeSize * heldAt m sb) (sb + stationSize) n)
 
 -- the seat of a station of a table's memory
 unfoldable pub seatAt : List ℕ → ℕ → Seat
-seatAt m ca = seatIn m ca 0 64 (64 + 48 * two m 4) (two m 6)
+seatAt m ca = seatIn m ca 0 headSize (stationsFrom m) (stationsIn m)

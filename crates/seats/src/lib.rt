@@ -1,8 +1,12 @@
 // Where a station's places lie in a table's memory, and where one of its points stands or would go.
+use layout::HEAD_SIZE;
+use layout::IOA_OFFSET;
+use layout::PLACE_SIZE;
+use layout::STATION_SIZE;
 ghost use mathlib.Core.Path.{_≡_};
 ghost use Prim.Native.Nat.{_+_, _*_, _≤_, _<_};
 ghost use lib.ListN.{length};
-ghost use Rattle.octets.specs.Number.{two};
+ghost use Rattle.layout.specs.Layout.{headSize, placeSize, stationSize, mostStations, stationsIn, sizeIn};
 ghost use Rattle.seats.specs.Seats.{seatIn, seatAt};
 ghost use Rattle.seats.specs.Find.{ioaAt, narrowed, halve, findAt};
 
@@ -14,23 +18,23 @@ pub enum Seat {
     NotPlanned,
 }
 
-// The seat among the n stations from `at`, the first of which has its places from 64.
+// The seat among the n stations from `at`, the first of which has its places after the head.
 fn seat_from(m: &[u8], ca: usize, at: usize, n: usize) -> Seat
-    requires { ⌜ (at + 8 * n ≤ length (now m)) × (n ≤ 64) ⌝ }
-    ensures { λ r. ⌜ r ≡ seatIn (now (m .entry)) ca 0 64 at n ⌝ }
+    requires { ⌜ (at + stationSize * n ≤ length (now m)) × (n ≤ mostStations) ⌝ }
+    ensures { λ r. ⌜ r ≡ seatIn (now (m .entry)) ca 0 headSize at n ⌝ }
 {
     let mut i: usize = 0;
-    let mut place: usize = 64;
+    let mut place: usize = HEAD_SIZE;
     let mut station = at;
     let mut left = n;
     while 0 < left {
-        let h = octets::two_at(m, station + 6);
-        if octets::two_at(m, station) == ca {
+        let h = layout::held_at(m, station);
+        if layout::ca_at(m, station) == ca {
             return Seat::Here(i, place, h);
         }
         i += 1;
-        place += 48 * h;
-        station += 8;
+        place += PLACE_SIZE * h;
+        station += STATION_SIZE;
         left -= 1;
     }
     Seat::NotPlanned
@@ -38,12 +42,12 @@ fn seat_from(m: &[u8], ca: usize, at: usize, n: usize) -> Seat
 
 // The seat of the station with common address `ca`.
 pub fn seat_at(m: &[u8], ca: usize) -> Seat
-    requires { ⌜ (two (now m) 6 ≤ 64) × (64 + 48 * two (now m) 4 + 8 * two (now m) 6 ≤ length (now m)) ⌝ }
+    requires { ⌜ (stationsIn (now m) ≤ mostStations) × (sizeIn (now m) ≤ length (now m)) ⌝ }
     ensures { λ r. ⌜ r ≡ seatAt (now (m .entry)) ca ⌝ }
 {
-    let k = octets::two_at(m, 4);
-    let n = octets::two_at(m, 6);
-    seat_from(m, ca, 64 + 48 * k, n)
+    let k = layout::capacity_of(m);
+    let n = layout::stations_of(m);
+    seat_from(m, ca, HEAD_SIZE + PLACE_SIZE * k, n)
 }
 
 // ---- a point of a station
@@ -62,11 +66,11 @@ struct Bounds {
 
 // Half of the places between two bounds: those above the middle one if its IOA is below `ioa`, else those before it.
 fn narrow(m: &[u8], first: usize, low: usize, high: usize, ioa: usize) -> Bounds
-    requires { ⌜ (low < high) × (first + 48 * high ≤ length (now m)) ⌝ }
+    requires { ⌜ (low < high) × (first + placeSize * high ≤ length (now m)) ⌝ }
     ensures { λ r. ⌜ r ≡ narrowed (ioaAt (now (m .entry)) first) ioa low high ⌝ }
 {
     let middle = (low + high) / 2;
-    if octets::three_at(m, first + 48 * middle + 3) < ioa {
+    if octets::three_at(m, first + PLACE_SIZE * middle + IOA_OFFSET) < ioa {
         return Bounds {
             low: middle + 1,
             high: high,
@@ -80,7 +84,7 @@ fn narrow(m: &[u8], first: usize, low: usize, high: usize, ioa: usize) -> Bounds
 
 // How many of the n places from `first` have an IOA below `ioa`, by halving.
 fn seek(m: &[u8], first: usize, n: usize, ioa: usize) -> usize
-    requires { ⌜ first + 48 * n ≤ length (now m) ⌝ }
+    requires { ⌜ first + placeSize * n ≤ length (now m) ⌝ }
     ensures { λ r. ⌜ (r ≡ halve (ioaAt (now (m .entry)) first) ioa 0 n n) × (r ≤ n) ⌝ }
 {
     let mut low: usize = 0;
@@ -95,15 +99,15 @@ fn seek(m: &[u8], first: usize, n: usize, ioa: usize) -> usize
 
 // Finds a point among the n places from `first`: one function for looking up, taking in and letting go.
 pub fn find(m: &[u8], first: usize, n: usize, ioa: usize) -> Spot
-    requires { ⌜ first + 48 * n ≤ length (now m) ⌝ }
+    requires { ⌜ first + placeSize * n ≤ length (now m) ⌝ }
     ensures { λ r. ⌜ r ≡ findAt (now (m .entry)) first n ioa ⌝ }
 {
     let j = seek(m, first, n, ioa);
-    let at = first + 48 * j;
+    let at = first + PLACE_SIZE * j;
     if j == n {
         return Spot::Missing(at);
     }
-    if octets::three_at(m, at + 3) == ioa {
+    if octets::three_at(m, at + IOA_OFFSET) == ioa {
         return Spot::Held(at);
     }
     Spot::Missing(at)

@@ -3,39 +3,47 @@ use answers::Answered;
 use asdu::cot::INITIATED;
 use asdu::header::Header;
 use asdu::types_id::M_EI_NA_1;
+use layout::STATION_SIZE;
 use limits::outcome::Outcome;
+use limits::size::ADDRESS_OCTETS;
+use limits::size::HEADER_OCTETS;
 ghost use mathlib.Core.Path.{_≡_};
+ghost use mathlib.Core.List.{[]};
 ghost use Prim.Native.Nat.{_+_, _*_, _≤_, _<_};
 ghost use lib.ListN.{length};
 ghost use Rattle.octets.specs.Over.{over};
+ghost use Rattle.layout.specs.Layout.{stationSize};
 ghost use Rattle.report.specs.Single.{endOfInitializationAsdu};
-ghost use Rattle.answers.specs.Said.{answeredOn, lentAfter};
+ghost use Rattle.answers.specs.Said.{Leaves, asItIs, lent};
 ghost use Rattle.answers.specs.Start.{startSaid};
-ghost use Rattle.starting.specs.Starting.{lentTo, commonAddressAt};
+ghost use Rattle.starting.specs.Starting.{commonAddressAt};
+
+// The object of the end of initialisation: its address and one octet.
+const OBJECT_OCTETS: usize = ADDRESS_OCTETS + 1;
 
 // The octets of the end of initialisation.
-const END_OF_INITIALIZATION_OCTETS: usize = 10;
+const END_OF_INITIALIZATION_OCTETS: usize = HEADER_OCTETS + OBJECT_OCTETS;
 
 // The common address of the first of the n stations from `at` that holds a point, or 0: the smallest, since the stations stand in ascending order.
 fn station_common_address(m: &[u8], at: usize, n: usize) -> usize
-    requires { ⌜ at + 8 * n ≤ length (now m) ⌝ }
+    requires { ⌜ at + stationSize * n ≤ length (now m) ⌝ }
     ensures { λ r. ⌜ (r ≡ commonAddressAt (now (m .entry)) at n) × (r < 65536) ⌝ }
 {
     let mut station = at;
     let mut left = n;
     while 0 < left {
-        if octets::two_at(m, station + 6) != 0 {
+        if layout::held_at(m, station) != 0 {
             return octets::two_at(m, station);
         }
-        station += 8;
+        station += STATION_SIZE;
         left -= 1;
     }
     0
 }
 
 // Writes the end of initialisation at the front of `out`: type 70, cause 4, IOA 0, octet 0.
-fn put_end_of_initialization(out: &mut [u8], ca: usize)
-    requires { ⌜ (ca < 65536) × (10 ≤ length (now out)) ⌝ }
+fn end_of_initialization_asdu(out: &mut [u8], ca: usize)
+    requires { ⌜ (ca < 65536) × (length (endOfInitializationAsdu ca) ≤ length (now out)) ⌝ }
     ensures { λ _. ⌜ now (out .exit) ≡ over (now (out .entry)) 0 (endOfInitializationAsdu ca) ⌝ }
 {
     let h = Header {
@@ -47,35 +55,22 @@ fn put_end_of_initialization(out: &mut [u8], ca: usize)
         originator: 0,
         ca: ca as u16,
     };
-    let object = [0u8; 4];
+    let object = [0u8; OBJECT_OCTETS];
     asdu::header::put_asdu(out, h, &object);
 }
 
 // The start of a connection: 3, then 4, else the end of initialisation, of the smallest common address with a point, or of 0.
 pub fn connection_started(table: &[u8], answer: &mut [u8]) -> Answered
-    ensures { λ r. ⌜ (r ≡ answeredOn startSaid (lentTo (now (table .entry)) (now (answer .entry)))) × (now (answer .exit) ≡ lentAfter startSaid (lentTo (now (table .entry)) (now (answer .entry))) .answer) ⌝ }
+    ensures { λ r. ⌜ Leaves asItIs (startSaid []) (lent (now (table .entry)) [] (now (answer .entry)) []) r (lent (now (table .entry)) [] (now (answer .exit)) []) ⌝ }
 {
     if !wellformed::well_formed(table) {
-        return Answered {
-            outcome: Outcome::TableNotWellFormed,
-            octets: 0,
-            spontaneous: 0,
-        };
+        return Answered::nothing(Outcome::TableNotWellFormed);
     }
     if answer.len() < END_OF_INITIALIZATION_OCTETS {
-        return Answered {
-            outcome: Outcome::AnswerShort,
-            octets: 0,
-            spontaneous: 0,
-        };
+        return Answered::nothing(Outcome::AnswerShort);
     }
-    let k = octets::two_at(table, 4);
-    let n = octets::two_at(table, 6);
-    let ca = station_common_address(table, 64 + 48 * k, n);
-    put_end_of_initialization(answer, ca);
-    Answered {
-        outcome: Outcome::Done,
-        octets: END_OF_INITIALIZATION_OCTETS,
-        spontaneous: 0,
-    }
+    let first = layout::station_at(table, 0);
+    let ca = station_common_address(table, first, layout::stations_of(table));
+    end_of_initialization_asdu(answer, ca);
+    Answered::given(END_OF_INITIALIZATION_OCTETS)
 }

@@ -9,8 +9,8 @@ use Rattle.limits.specs.Test.{_&_, total}
 use Rattle.limits.specs.Size.{pointTypes, pointOctets, octetsIn}
 use Rattle.octets.specs.Number.{zeros}
 use Rattle.model.specs.Place.{valid, pointOk, placeOk, placesOk}
-use Rattle.table.specs.Table.{Table, rising, allRising, numbersOk, planOk, sharesOk, good, image, bodies, placesOf, entries}
-use Rattle.table.specs.Memory.{parse, wellFormed, headAt, markAt, sharesAt, planAt, sumAt, bodiesAt}
+use Rattle.table.specs.Table.{document01, Table, rising, allRising, numbersOk, planOk, sharesOk, good, image, bodies, placesOf, entries}
+use Rattle.table.specs.Memory.{parse, wellFormed, headAt, markAt, settingsAt, sharesAt, planAt, sumAt, bodiesAt}
 use Rattle.table.proofs.Parse.{parse-complete}
 
 -- octets of a value, and zeros past the element
@@ -22,6 +22,7 @@ pub gateway : Table
 unfolding val
 gateway =
     record {
+      settings = document01;
       capacity = 8;
       stations =
           record {
@@ -46,5 +47,5 @@ gateway-read rest = parse-complete gateway rest gateway-good
 
 -- Its octets pass the test, computed on the octets themselves.
 pub gateway-tested : wellFormed (image gateway) ≡ true
-unfolding gateway val _&_ zeros pointTypes pointOctets octetsIn valid placeOk placesOk image bodies placesOf entries total wellFormed headAt markAt sharesAt planAt numbersOk sharesOk sumAt bodiesAt
+unfolding gateway val _&_ zeros pointTypes pointOctets octetsIn valid placeOk placesOk image bodies placesOf entries total wellFormed headAt markAt settingsAt sharesAt planAt numbersOk sharesOk sumAt bodiesAt
 gateway-tested = refl

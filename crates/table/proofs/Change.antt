@@ -1,25 +1,25 @@
 -- What a change of one station does to a table: the station is found once, the others are as they were, and a good table stays good
 -- where the changed points rise and the new shares are sound. Assumes nothing.
-use mathlib.Core.Path.{_≡_, refl, sym, ap, ap₂, _∙_, subst}
+use mathlib.Core.Path.{_≡_, refl, sym, ap, _∙_, subst}
 use mathlib.Core.List.{List, [], _∷_, _++_, map}
 use mathlib.Core.Bool.{Bool, true, false}
-use mathlib.Core.Option.{Option, none, some}
-use Prim.Native.Nat.{ℕ, zero, suc, _+_, _-_, _≤_, _<_}
+use mathlib.Core.Option.{none, some}
+use Prim.Native.Nat.{ℕ, suc, _+_, _≤_, _<_}
 use native.Mathlib.Omega.{arith}
-use lib.ListN.{length, take, drop, length-append}
+use lib.ListN.{length, length-append}
 use lib.Dec.{leb, eqb}
 use borrow.Author.Tests.{lt-ltb, eqb-true, eqb-false, eq-eqb, ne-eqb, leb-true, leb-false, le-leb, lt-leb}
 use Rattle.limits.specs.Test.{_&_, pick, total}
 use Rattle.limits.specs.Share.{Sound, takenIn, letGo, admissionIn, freeOf, unmetOf}
 use Rattle.limits.specs.declared.share.Share.{Share}
 use Rattle.limits.specs.declared.share.Admission.the-variants.{Admitted}
-use Rattle.limits.proofs.Tests.{both, join, total-append}
+use Rattle.limits.proofs.Tests.{both, join}
 use Rattle.limits.proofs.Shares.{admitted-only, take-in-keeps-sound, let-go-keeps-sound, fresh-plan-sound, nothingHeld, reservationOf}
 use Rattle.model.specs.declared.Point.{Point}
 use Rattle.model.specs.Place.{pointOk}
-use Rattle.table.specs.Table.{Station, Table, held, shareOf, reserved, rising, allRising, good}
+use Rattle.table.specs.Table.{Station, Table, highestCa, held, shareOf, reserved, rising, allRising}
 use Rattle.table.specs.Change.{stationOf, inStation, withPoints, changed, seekIn, known, insertIn, removeIn, added, removed, emptied}
-use Rattle.table.proofs.Parse.{Good, is-good}
+use Rattle.table.proofs.Parse.{Good}
 use Rattle.table.proofs.Shares.{planned, plan-of, shares-of, sound-numbers, good-sound, map-append}
 
 -- ---- where a station stands
@@ -78,7 +78,7 @@ plan-with : (k low : ℕ) (before : List Station) (s : Station) (after : List St
 unfolding planned
 plan-with k low [] s after f = refl
 plan-with k low (x ∷ before) s after f =
-    ap (λ (b : Bool). leb low (x .ca) & leb (x .ca) 65534 & leb (x .reservation) (x .ceiling) & leb (x .ceiling) k & b) (plan-with k (x .ca + 1) before s after f)
+    ap (λ (b : Bool). leb low (x .ca) & leb (x .ca) highestCa & leb (x .reservation) (x .ceiling) & leb (x .ceiling) k & b) (plan-with k (x .ca + 1) before s after f)
 
 reserved-with : (before : List Station) (s : Station) (after : List Station) (f : List Point → List Point)
     → total reserved (before ++ (withPoints f s ∷ after)) ≡ total reserved (before ++ (s ∷ after))
@@ -124,6 +124,7 @@ good-changed t ca f s w g r sound =
     let high : length (t .stations) ≤ 64 = g .s-high in
     let few = shares-of _ _ _ _ (n .1) .1 in
     record {
+      settings = g .settings;
       k-low = g .k-low;
       k-high = g .k-high;
       s-low = rw e (omega arith);
@@ -267,7 +268,7 @@ empty-plan : (k low : ℕ) (ss : List Station) → planned k low (none-left ss) 
 unfolding planned none-left
 empty-plan k low [] = refl
 empty-plan k low (s ∷ ss) =
-    ap (λ (b : Bool). leb low (s .ca) & leb (s .ca) 65534 & leb (s .reservation) (s .ceiling) & leb (s .ceiling) k & b) (empty-plan k (s .ca + 1) ss)
+    ap (λ (b : Bool). leb low (s .ca) & leb (s .ca) highestCa & leb (s .reservation) (s .ceiling) & leb (s .ceiling) k & b) (empty-plan k (s .ca + 1) ss)
 
 empty-reserved : (ss : List Station) → total reserved (none-left ss) ≡ total reserved ss
 unfolding total none-left
@@ -305,6 +306,7 @@ good-emptied t g =
     let low : 1 ≤ length (t .stations) = g .s-low in
     let high : length (t .stations) ≤ 64 = g .s-high in
     record {
+      settings = g .settings;
       k-low = g .k-low;
       k-high = g .k-high;
       s-low = omega arith;

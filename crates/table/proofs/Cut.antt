@@ -3,7 +3,6 @@
 use mathlib.Core.Path.{_≡_, refl, sym, ap, _∙_}
 use mathlib.Core.List.{List, [], _∷_, _++_, append-assoc}
 use Prim.Native.Nat.{ℕ, suc, _+_, _*_, _-_, _/_, _%_}
-use native.Mathlib.Omega.{arith}
 use lib.ListN.{length, replicate, length-append}
 use Rattle.limits.specs.Test.{total}
 use Rattle.limits.proofs.Tests.{total-append}
@@ -11,16 +10,18 @@ use Rattle.octets.specs.Over.{over}
 use Rattle.octets.specs.Number.{pair}
 use Rattle.model.specs.declared.Point.{Point}
 use Rattle.model.specs.Place.{placeOf}
-use Rattle.table.specs.Table.{Station, held, placesOf, bodies, eight, entries, head, image}
+use Rattle.layout.specs.Layout.{placeSize, pointsOffset}
+use Rattle.table.specs.Change.{withStations}
+use Rattle.table.specs.Table.{Settings, Station, Table, held, placesOf, bodies, eight, entries, head, image}
 
 -- A station's first six octets, which no point changes.
 unfoldable pub six : ℕ → ℕ → ℕ → List ℕ
 six ca r c = ca % 256 ∷ ca / 256 ∷ r % 256 ∷ r / 256 ∷ c % 256 ∷ c / 256 ∷ []
 
 -- The number of points written over the head.
-pub head-over : (k s n v : ℕ) (Y : List ℕ) → over (head k s n ++ Y) 8 (pair v) ≡ head k s v ++ Y
+pub head-over : (c : Settings) (k s n v : ℕ) (Y : List ℕ) → over (head c k s n ++ Y) pointsOffset (pair v) ≡ head c k s v ++ Y
 unfolding over
-head-over k s n v Y = refl
+head-over c k s n v Y = refl
 
 -- The places of joined points are joined.
 pub places-append : (ca : ℕ) (xs ys : List Point) → placesOf ca (xs ++ ys) ≡ placesOf ca xs ++ placesOf ca ys
@@ -69,14 +70,16 @@ regroup : (H B P D Z E F G R : List ℕ)
 regroup H B P D Z E F G R = simp append-assoc
 
 -- The image of a table with n points, cut at station s.
-pub image-at : (k : ℕ) (before : List Station) (s : Station) (after : List Station) (n : ℕ) (rest : List ℕ) → total held (before ++ (s ∷ after)) ≡ n
-    → image (record { capacity = k; stations = before ++ (s ∷ after) }) ++ rest
-    ≡ head k (length before + suc (length after)) n ++ (bodies before ++ (placesOf (s .ca) (s .points) ++ (bodies after
-    ++ (replicate (48 * (k - n)) 0 ++ (entries before ++ (eight (s .ca) (s .reservation) (s .ceiling) (held s) ++ (entries after ++ rest)))))))
+pub image-at : (t : Table) (before : List Station) (s : Station) (after : List Station) (n : ℕ) (rest : List ℕ) → total held (before ++ (s ∷ after)) ≡ n
+    → image (withStations (before ++ (s ∷ after)) t) ++ rest
+    ≡ head (t .settings) (t .capacity) (length before + suc (length after)) n ++ (bodies before ++ (placesOf (s .ca) (s .points) ++ (bodies after
+    ++ (replicate (placeSize * (t .capacity - n)) 0 ++ (entries before ++ (eight (s .ca) (s .reservation) (s .ceiling) (held s) ++ (entries after ++ rest)))))))
 unfolding image
-image-at k before s after n rest e =
+image-at t before s after n rest e =
+    let c : Settings = t .settings in
+    let k : ℕ = t .capacity in
     (λ j.
-    (head k (length-append before (s ∷ after) j) (e j) ++ (bodies-at before s after j ++ (replicate (48 * (k - e j)) 0 ++ entries-at before s after j)))
+    (head c k (length-append before (s ∷ after) j) (e j) ++ (bodies-at before s after j ++ (replicate (48 * (k - e j)) 0 ++ entries-at before s after j)))
     ++ rest)
-    ∙ regroup (head k (length before + suc (length after)) n) (bodies before) (placesOf (s .ca) (s .points)) (bodies after) (replicate (48 * (k - n)) 0)
+    ∙ regroup (head c k (length before + suc (length after)) n) (bodies before) (placesOf (s .ca) (s .points)) (bodies after) (replicate (48 * (k - n)) 0)
     (entries before) (eight (s .ca) (s .reservation) (s .ceiling) (held s)) (entries after) rest

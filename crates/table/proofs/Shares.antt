@@ -9,7 +9,7 @@ use borrow.Author.Tests.{ltb-false, leb-true, le-leb}
 use Rattle.limits.specs.Test.{_&_, pick, total}
 use Rattle.limits.specs.Share.{heldOf, unmetOf, withinCeilings, Sound}
 use Rattle.limits.proofs.Tests.{both, join}
-use Rattle.table.specs.Table.{Station, Table, held, shareOf, unmet, reserved, numbersOk, planOk, sharesOk}
+use Rattle.table.specs.Table.{Station, Table, highestCa, held, shareOf, unmet, reserved, numbersOk, planOk, sharesOk}
 use Rattle.table.proofs.Parse.{Good}
 
 -- A station's unmet room is that of its share.
@@ -40,7 +40,7 @@ map-append (x ∷ xs) ys = ap (λ (l : _). shareOf x ∷ l) (map-append xs ys)
 -- the plan alone, which no point changes: CA strictly ascending from `low`, r ≤ c ≤ K
 unfoldable pub planned : ℕ → ℕ → List Station → Bool
 planned k low [] = true
-planned k low (s ∷ ss) = leb low (s .ca) & leb (s .ca) 65534 & leb (s .reservation) (s .ceiling) & leb (s .ceiling) k & planned k (s .ca + 1) ss
+planned k low (s ∷ ss) = leb low (s .ca) & leb (s .ca) highestCa & leb (s .reservation) (s .ceiling) & leb (s .ceiling) k & planned k (s .ca + 1) ss
 
 -- The test of the plan tells the plan alone, and that no share is above its ceiling.
 pub plan-of : (k low : ℕ) (ss : List Station) → planOk k low ss ≡ true → (planned k low ss ≡ true) × withinCeilings (map shareOf ss)

@@ -12,7 +12,8 @@ use Rattle.octets.specs.Number.{two, Octets}
 use Rattle.model.specs.Place.{placesOk}
 use Rattle.limits.proofs.Tests.{both, join}
 use Rattle.table.specs.Table.{Station, held, unmet, reserved, numbersOk, planOk, allRising, placesOf, bodies, eight, entries}
-use Rattle.table.specs.Memory.{pointsAt, stationsAt, sumAt, reservedAt, heldAt, unmetAt, planAt, bodiesAt}
+use Rattle.table.specs.Memory.{pointsAt, stationsAt, sumAt, unmetAt, planAt, bodiesAt}
+use Rattle.layout.specs.Layout.{reservationAt, heldAt}
 use Rattle.octets.proofs.At.{At, at-none, at-next, at-fst, at-rest, at-take}
 use Rattle.table.proofs.Points.{octets-drop, gets, gets-drop, length-places, length-pointsAt, points-sound, points-complete}
 
@@ -25,7 +26,7 @@ length-stationsAt m pb sb zero = refl
 length-stationsAt m pb sb (suc n) = ap suc (length-stationsAt m (pb + 48 * two m (sb + 6)) (sb + 8) n)
 
 -- The reservations read, added up, are those of the stations read.
-pub sum-reserved : (m : List ℕ) (pb sb n : ℕ) → total reserved (stationsAt m pb sb n) ≡ sumAt reservedAt m sb n
+pub sum-reserved : (m : List ℕ) (pb sb n : ℕ) → total reserved (stationsAt m pb sb n) ≡ sumAt reservationAt m sb n
 unfolding stationsAt total sumAt
 sum-reserved m pb sb zero = refl
 sum-reserved m pb sb (suc n) = ap (λ (x : ℕ). two m (sb + 2) + x) (sum-reserved m (pb + 48 * two m (sb + 6)) (sb + 8) n)
@@ -61,10 +62,11 @@ two-drop m sb k = simp (getD-drop, add-assoc)
 two-here : (m : List ℕ) (sb : ℕ) → two m sb ≡ two (drop sb m) 0
 two-here m sb = simp (getD-drop, add-zero)
 
-low-of : (a b : ℕ) → a < 256 → (a + 256 * b) % 256 ≡ a
+-- The low octet of a number, and the number above it.
+pub low-of : (a b : ℕ) → a < 256 → (a + 256 * b) % 256 ≡ a
 low-of a b h = omega arith
 
-high-of : (a b : ℕ) → a < 256 → (a + 256 * b) / 256 ≡ b
+pub high-of : (a b : ℕ) → a < 256 → (a + 256 * b) / 256 ≡ b
 high-of a b h = omega arith
 
 -- Low octet and high octet make the number.

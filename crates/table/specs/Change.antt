@@ -1,6 +1,6 @@
 -- What a call does to a table: a change of one station, a point taken in, a point let go, all points let go.
 -- Document 01, 'Points, stations and shares'. Other stations' lists are not touched: the change stands at one station.
-use Prim.Native.Nat.{ℕ, zero, suc}
+use Prim.Native.Nat.{ℕ, suc}
 use mathlib.Core.List.{List, [], _∷_, _++_, map}
 use mathlib.Core.Bool.{Bool, true, false}
 use mathlib.Core.Option.{Option, none, some}
@@ -24,9 +24,13 @@ inStation ca f (s ∷ ss) = pick (eqb (s .ca) ca) (f s ∷ ss) (s ∷ inStation 
 abbrev pub withPoints : (List Point → List Point) → Station → Station
 withPoints f s = record { ca = s .ca; reservation = s .reservation; ceiling = s .ceiling; points = f (s .points) }
 
+-- A table with other stations: its settings and K stay.
+abbrev pub withStations : List Station → Table → Table
+withStations ss t = record { settings = t .settings; capacity = t .capacity; stations = ss }
+
 -- A table with the points of one station changed.
 unfoldable pub changed : Table → ℕ → (List Point → List Point) → Table
-changed t ca f = record { capacity = t .capacity; stations = inStation ca (withPoints f) (t .stations) }
+changed t ca f = withStations (inStation ca (withPoints f) (t .stations)) t
 
 -- How many points of an ascending list have an IOA below `ioa`.
 unfoldable pub seekIn : ℕ → List Point → ℕ
@@ -62,4 +66,4 @@ removed t ca ioa = changed t ca (removeIn ioa)
 
 -- Every station without points: the plan and K stay.
 unfoldable pub emptied : Table → Table
-emptied t = record { capacity = t .capacity; stations = map (withPoints (λ (ps : List Point). [])) (t .stations) }
+emptied t = withStations (map (withPoints (λ (ps : List Point). [])) (t .stations)) t

@@ -22,12 +22,12 @@ use Rattle.octets.proofs.Log.{Log, log-start, log-step, log-room, log-end}
 use Rattle.registry.specs.Effect.{holding}
 use Rattle.asdu.specs.Cause.{spontaneous}
 use Rattle.report.specs.Single.{single}
-use Rattle.answers.specs.Process.{Update, updatesAt, updateOf, tableWith, tableAfter, toldOf, toldBy}
+use Rattle.answers.specs.Process.{Update, updateOctets, updateTypeOffset, updateValueOffset, updateAt, updatesAt, updateOf, tableWith, tableAfter, toldOf, toldBy}
 use Rattle.answers.proofs.Values.{point-in}
 use Rattle.answers.proofs.Quiet.{updates-whole, update-still}
 use Rattle.updates.specs.declared.Target.the-variants.{Place, Skipped}
 use Rattle.updates.specs.Values.{revalued}
-use Rattle.updates.specs.Updates.{updateAt, targetAt, stored, toldOne, leftBy}
+use Rattle.updates.specs.Updates.{targetAt, stored, toldOne, leftOne, toldByAll, leftByAll, Applies}
 use Rattle.updates.proofs.Meant.{target-place, target-skipped}
 use Rattle.updates.proofs.Stored.{stored-image}
 use Rattle.updates.proofs.Told.{element-part, length-told}
@@ -41,7 +41,7 @@ module _ (m us : List ℕ) (at : ℕ) (o : Octets m) (w : wellFormed m ≡ true)
   unfolding toldOf
   skipped-told e = ap (toldOf (updateAt us at)) (target-skipped m (updateAt us at) o w e)
 
-  pub skipped-left : targetAt m (updateAt us at) ≡ Skipped → m ≡ leftBy m us at
+  pub skipped-left : targetAt m (updateAt us at) ≡ Skipped → m ≡ leftOne m us at
   unfolding tableWith
   skipped-left e =
       printed m o (passed m w) ∙ ap (λ (x : Option Point). holding m (tableOf m) (tableWith (tableOf m) (updateAt us at) x)) (sym (target-skipped m (updateAt us at) o w e))
@@ -55,7 +55,7 @@ module _ (m us : List ℕ) (at : ℕ) (o : Octets m) (w : wellFormed m ≡ true)
     found-ioa = let d = target-place m (updateAt us at) o w place e in point-in 0 (updateAt us at .ioa) (d .station .points) (pointAt m place) (d .rises) (d .is-point) .1
 
     -- So many octets are told.
-    pub place-length : length (toldOne m us at) ≡ 9 + pointOctets (getD us (at + 5) 0)
+    pub place-length : length (toldOne m us at) ≡ 9 + pointOctets (getD us (at + updateTypeOffset) 0)
     place-length =
         let d = target-place m (updateAt us at) o w place e in
         ap (λ (x : Option Point). length (toldOf (updateAt us at) x)) (d .update)
@@ -63,8 +63,8 @@ module _ (m us : List ℕ) (at : ℕ) (o : Octets m) (w : wellFormed m ≡ true)
         ∙ ap (λ (k : ℕ). 9 + pointOctets k) (d .is-kind)
 
     -- What is stored leaves the image of the table with the new value, and the point at the place is the one that is told.
-    stored-both : at + 18 ≤ length us → (stored m place (getD us (at + 5) 0) us (at + 6) ≡ leftBy m us at)
-        × (pointAt (stored m place (getD us (at + 5) 0) us (at + 6)) place ≡ revalued (pointAt m place) (updateAt us at .value))
+    stored-both : at + updateOctets ≤ length us → (stored m place (getD us (at + updateTypeOffset) 0) us (at + updateValueOffset) ≡ leftOne m us at)
+        × (pointAt (stored m place (getD us (at + updateTypeOffset) 0) us (at + updateValueOffset)) place ≡ revalued (pointAt m place) (updateAt us at .value))
     unfolding stored tableWith
     stored-both h =
         let d = target-place m (updateAt us at) o w place e in
@@ -72,17 +72,17 @@ module _ (m us : List ℕ) (at : ℕ) (o : Octets m) (w : wellFormed m ≡ true)
         let q : Point = pointAt m place in
         let v : List ℕ = updateAt us at .value in
         let rest : List ℕ = drop (length (image t)) m in
-        let x : take (pointOctets (getD us (at + 5) 0)) (drop (at + 6) us) ≡ take (pointOctets (q .kind)) v =
-        element-part us (at + 6) (pointOctets (getD us (at + 5) 0)) (omega arith) (point-at-most (getD us (at + 5) 0))
+        let x : take (pointOctets (getD us (at + updateTypeOffset) 0)) (drop (at + updateValueOffset) us) ≡ take (pointOctets (q .kind)) v =
+        element-part us (at + updateValueOffset) (pointOctets (getD us (at + updateTypeOffset) 0)) (omega arith) (point-at-most (getD us (at + updateTypeOffset) 0))
         ∙ ap (λ (k : ℕ). take (pointOctets k) v) (sym (d .is-kind)) in
         let b = stored-image t rest (updateAt us at .ca) (updateAt us at .ioa) (d .station) (d .found) q v place (d .rises) (d .is-point) found-ioa refl (d .place) in
         let s = ap₂ (λ (y z : List ℕ). over y (place + 10) z) (printed m o (passed m w)) x ∙ b .0 in
         (s ∙ ap (λ (y : Option Point). holding m t (tableWith t (updateAt us at) y)) (sym (d .update)), ap (λ (y : List ℕ). pointAt y place) s ∙ b .1)
 
-    pub place-left : at + 18 ≤ length us → stored m place (getD us (at + 5) 0) us (at + 6) ≡ leftBy m us at
+    pub place-left : at + updateOctets ≤ length us → stored m place (getD us (at + updateTypeOffset) 0) us (at + updateValueOffset) ≡ leftOne m us at
     place-left h = stored-both h .0
 
-    pub place-told : at + 18 ≤ length us → single spontaneous (two us at) (pointAt (stored m place (getD us (at + 5) 0) us (at + 6)) place) ≡ toldOne m us at
+    pub place-told : at + updateOctets ≤ length us → single spontaneous (two us at) (pointAt (stored m place (getD us (at + updateTypeOffset) 0) us (at + updateValueOffset)) place) ≡ toldOne m us at
     unfolding toldOf
     place-told h =
         let d = target-place m (updateAt us at) o w place e in
@@ -93,7 +93,7 @@ module _ (m us : List ℕ) (at : ℕ) (o : Octets m) (w : wellFormed m ≡ true)
 one-more : (n : ℕ) → 0 < n → n ≡ suc (n - 1)
 one-more n h = omega arith
 
-updates-on : (us : List ℕ) (at left : ℕ) → 0 < left → updatesAt us at left ≡ updateAt us at ∷ updatesAt us (at + 18) (left - 1)
+updates-on : (us : List ℕ) (at left : ℕ) → 0 < left → updatesAt us at left ≡ updateAt us at ∷ updatesAt us (at + updateOctets) (left - 1)
 unfolding updatesAt
 updates-on us at left h = ap (updatesAt us at) (one-more left h)
 
@@ -105,7 +105,7 @@ updates-end us at left h = let e : left ≡ 0 = omega arith in ap (updatesAt us 
 abbrev pub sizeLeft : List ℕ → List ℕ → ℕ → ℕ → ℕ
 sizeLeft m us at left = octetsTold (tableOf m) (updatesAt us at left)
 
-pub size-on : (m us : List ℕ) (at left : ℕ) → 0 < left → sizeLeft m us at left ≡ length (toldOne m us at) + sizeLeft m us (at + 18) (left - 1)
+pub size-on : (m us : List ℕ) (at left : ℕ) → 0 < left → sizeLeft m us at left ≡ length (toldOne m us at) + sizeLeft m us (at + updateOctets) (left - 1)
 unfolding octetsTold total
 size-on m us at left h = ap (octetsTold (tableOf m)) (updates-on us at left h)
 
@@ -119,20 +119,13 @@ size-all m us n = length-told-by (tableOf m) (updatesAt us 0 n) (updates-whole u
 
 -- ---- the loop that stores and tells
 
--- What all updates that are left leave, and what they tell.
-abbrev pub leftByAll : List ℕ → List ℕ → ℕ → ℕ → List ℕ
-leftByAll m us at left = holding m (tableOf m) (tableAfter (tableOf m) (updatesAt us at left))
-
-abbrev pub toldByAll : List ℕ → List ℕ → ℕ → ℕ → List ℕ
-toldByAll m us at left = toldBy (tableOf m) (updatesAt us at left)
-
 -- After one of them the memory is well formed, and the rest go on from there.
 pub record Turned (m us : List ℕ) (at left : ℕ) (m′ : List ℕ) : Type 0 where
   pub formed : wellFormed m′ ≡ true
-  pub leaves : leftByAll m us at left ≡ leftByAll m′ us (at + 18) (left - 1)
-  pub tells : toldByAll m us at left ≡ toldOne m us at ++ toldByAll m′ us (at + 18) (left - 1)
+  pub leaves : leftByAll m us at left ≡ leftByAll m′ us (at + updateOctets) (left - 1)
+  pub tells : toldByAll m us at left ≡ toldOne m us at ++ toldByAll m′ us (at + updateOctets) (left - 1)
 
-pub turned : (m us : List ℕ) (at left : ℕ) (m′ : List ℕ) → Octets m → wellFormed m ≡ true → 0 < left → m′ ≡ leftBy m us at → Turned m us at left m′
+pub turned : (m us : List ℕ) (at left : ℕ) (m′ : List ℕ) → Octets m → wellFormed m ≡ true → 0 < left → m′ ≡ leftOne m us at → Turned m us at left m′
 unfolding tableAfter toldBy
 turned m us at left m′ o w h e =
     let t : Table = tableOf m in
@@ -141,17 +134,17 @@ turned m us at left m′ o w h e =
     let g : Good t′ = update-still t u refl .is-good (holds m o w .0) in
     let p : parse m′ ≡ some t′ = ap parse e ∙ parse-complete t′ (drop (length (image t)) m) (is-good t′ g) in
     let f = parsed m′ t′ p in
-    let s : updatesAt us at left ≡ u ∷ updatesAt us (at + 18) (left - 1) = updates-on us at left h in
+    let s : updatesAt us at left ≡ u ∷ updatesAt us (at + updateOctets) (left - 1) = updates-on us at left h in
     let past : drop (length (image t′)) m′ ≡ drop (length (image t)) m = ap (drop (length (image t′))) e ∙ drop-append-seam (image t′) (drop (length (image t)) m) in
     record {
       formed = f .0;
       leaves =
           ap (λ (x : List Update). holding m t (tableAfter t x)) s
-          ∙ ap (λ (y : List ℕ). image (tableAfter t′ (updatesAt us (at + 18) (left - 1))) ++ y) (sym past)
-          ∙ ap (λ (x : Table). holding m′ x (tableAfter x (updatesAt us (at + 18) (left - 1)))) (sym (f .1));
+          ∙ ap (λ (y : List ℕ). image (tableAfter t′ (updatesAt us (at + updateOctets) (left - 1))) ++ y) (sym past)
+          ∙ ap (λ (x : Table). holding m′ x (tableAfter x (updatesAt us (at + updateOctets) (left - 1)))) (sym (f .1));
       tells =
           ap (toldBy t) s
-          ∙ ap (λ (x : Table). toldOne m us at ++ toldBy x (updatesAt us (at + 18) (left - 1))) (sym (f .1));
+          ∙ ap (λ (x : Table). toldOne m us at ++ toldBy x (updatesAt us (at + updateOctets) (left - 1))) (sym (f .1));
     }
 
 -- With none left the memory is as it was, and nothing is told.
@@ -167,12 +160,12 @@ told-end m us at left h = ap (toldBy (tableOf m)) (updates-end us at left h)
 pub record Going (m₀ us : List ℕ) (n : ℕ) (s₀ m s : List ℕ) (o at left : ℕ) : Type 0 where
   pub octets : Octets m
   pub formed : wellFormed m ≡ true
-  pub whole : at + 18 * left ≤ length us
+  pub whole : at + updateOctets * left ≤ length us
   pub same : length m ≡ length m₀
   pub leaves : leftByAll m₀ us 0 n ≡ leftByAll m us at left
   pub log : Log s₀ 0 (toldByAll m₀ us 0 n) s o (toldByAll m us at left)
 
-pub going-start : (m us : List ℕ) (n : ℕ) (s : List ℕ) → Octets m → wellFormed m ≡ true → 18 * n ≤ length us → Going m us n s m s 0 0 n
+pub going-start : (m us : List ℕ) (n : ℕ) (s : List ℕ) → Octets m → wellFormed m ≡ true → updateOctets * n ≤ length us → Going m us n s m s 0 0 n
 going-start m us n s o w h =
     record { octets = o; formed = w; whole = omega arith; same = refl; leaves = refl; log = log-start s 0 (toldByAll m us 0 n) (omega arith) }
 
@@ -180,23 +173,23 @@ module _ (m₀ us : List ℕ) (n : ℕ) (s₀ m s : List ℕ) (o at left : ℕ) 
   -- The next ASDU has room.
   pub going-room : 0 < left → length (toldByAll m₀ us 0 n) ≤ length s₀ → o + length (toldOne m us at) ≤ length s
   going-room h r =
-      let t = turned m us at left (leftBy m us at) (g .octets) (g .formed) h refl in
+      let t = turned m us at left (leftOne m us at) (g .octets) (g .formed) h refl in
       let a : o + length (toldByAll m us at left) ≤ length s = log-room s₀ (toldByAll m₀ us 0 n) s (toldByAll m us at left) 0 o (g .log) (omega arith) in
-      let b : length (toldByAll m us at left) ≡ length (toldOne m us at) + length (toldByAll (leftBy m us at) us (at + 18) (left - 1)) =
-      ap length (t .tells) ∙ length-append (toldOne m us at) (toldByAll (leftBy m us at) us (at + 18) (left - 1)) in
+      let b : length (toldByAll m us at left) ≡ length (toldOne m us at) + length (toldByAll (leftOne m us at) us (at + updateOctets) (left - 1)) =
+      ap length (t .tells) ∙ length-append (toldOne m us at) (toldByAll (leftOne m us at) us (at + updateOctets) (left - 1)) in
       omega arith
 
   -- One turn.
   pub going-on : (m′ s′ : List ℕ) (o′ : ℕ) → 0 < left → length (toldByAll m₀ us 0 n) ≤ length s₀ → Octets m′ → length m′ ≡ length m
-      → o′ ≡ o + length (toldOne m us at) → m′ ≡ leftBy m us at → s′ ≡ over s o (toldOne m us at) → Going m₀ us n s₀ m′ s′ o′ (at + 18) (left - 1)
+      → o′ ≡ o + length (toldOne m us at) → m′ ≡ leftOne m us at → s′ ≡ over s o (toldOne m us at) → Going m₀ us n s₀ m′ s′ o′ (at + updateOctets) (left - 1)
   going-on m′ s′ o′ h r oc l eo em es =
       let t = turned m us at left m′ (g .octets) (g .formed) h em in
       let A : List ℕ = toldOne m us at in
-      let todo : List ℕ = toldByAll m′ us (at + 18) (left - 1) in
+      let todo : List ℕ = toldByAll m′ us (at + updateOctets) (left - 1) in
       let all : List ℕ = toldByAll m₀ us 0 n in
       let before : Log s₀ 0 all s o (A ++ todo) = subst (λ (x : List ℕ). Log s₀ 0 all s o x) (t .tells) (g .log) in
       let on : Log s₀ 0 all (over s o A) (o + length A) todo = log-step s₀ all s A todo 0 o before (going-room h r) in
-      let w : at + 18 * left ≤ length us = g .whole in
+      let w : at + updateOctets * left ≤ length us = g .whole in
       record {
         octets = oc;
         formed = t .formed;
@@ -207,11 +200,11 @@ module _ (m₀ us : List ℕ) (n : ℕ) (s₀ m s : List ℕ) (o at left : ℕ) 
       }
 
   -- None left: all is stored and told.
-  pub going-end : left ≤ 0 → (o ≡ length (toldByAll m₀ us 0 n)) × (m ≡ leftByAll m₀ us 0 n) × (s ≡ over s₀ 0 (toldByAll m₀ us 0 n))
+  pub going-end : left ≤ 0 → Applies (leftByAll m₀ us 0 n) (toldByAll m₀ us 0 n) s₀ 0 o m s
   going-end h =
       let all : List ℕ = toldByAll m₀ us 0 n in
       let e = log-end s₀ all s 0 o (subst (λ (x : List ℕ). Log s₀ 0 all s o x) (told-end m us at left h) (g .log)) (omega arith) in
-      (e .0 ∙ zero-add (length all), left-end m us at left (g .octets) (g .formed) h ∙ sym (g .leaves), e .1)
+      record { reach = e .0; memory = left-end m us at left (g .octets) (g .formed) h ∙ sym (g .leaves); output = e .1 }
 
 -- Nothing written leaves a memory as it was.
 pub over-none : (m : List ℕ) (o : ℕ) → m ≡ over m o []

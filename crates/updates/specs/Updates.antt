@@ -1,27 +1,31 @@
 -- ---- as the code reads: nobody need believe what follows, the laws in proofs/ tie it to `tableAfter` and `toldBy` of `answers`
-use Prim.Native.Nat.{ℕ, _+_}
+use Prim.Native.Nat.{ℕ, _+_, _≤_}
+use mathlib.Core.Path.{_≡_}
 use mathlib.Core.List.{List}
-use lib.ListN.{take, drop, getD}
+use mathlib.Core.Bool.{true}
+use lib.ListN.{length, take, drop, getD}
 use lib.Dec.{eqb}
 use Rattle.limits.specs.Test.{pick}
-use Rattle.limits.specs.Size.{pointOctets}
+use Rattle.limits.specs.Size.{headerOctets, addressOctets, pointOctets}
 use Rattle.octets.specs.Over.{over}
-use Rattle.octets.specs.Number.{two, three, twelve}
+use Rattle.layout.specs.Layout.{valueOffset, valueSize}
 use Rattle.seats.specs.declared.Seat.{Seat}
 use Rattle.seats.specs.declared.Seat.the-variants.{Here, NotPlanned}
 use Rattle.seats.specs.declared.Spot.{Spot}
 use Rattle.seats.specs.declared.Spot.the-variants.{Held, Missing}
 use Rattle.seats.specs.Seats.{seatAt}
 use Rattle.seats.specs.Find.{findAt}
-use Rattle.table.specs.Memory.{tableOf}
+use Rattle.table.specs.Memory.{tableOf, wellFormed}
 use Rattle.registry.specs.Effect.{holding}
-use Rattle.answers.specs.Process.{Update, updateOf, tableWith, toldOf}
+use Rattle.answers.specs.Process.{Update, updateOctets, updateAt, updatesAt, updateOf, tableWith, tableAfter, toldOf, toldBy}
 use Rattle.updates.specs.declared.Target.{Target}
 use Rattle.updates.specs.declared.Target.the-variants.{Place, Skipped}
 
--- the update in the 18 octets from `at`, the first of `updatesAt`
-abbrev pub updateAt : List ℕ → ℕ → Update
-updateAt m at = record { ca = two m at; ioa = three m (at + 2); kind = getD m (at + 5) 0; value = twelve m (at + 6) }
+-- a table's memory, and a whole update from `at` on
+abbrev pub UpdateIn : List ℕ → List ℕ → ℕ → Type 0
+UpdateIn m us at = (wellFormed m ≡ true) × (at + updateOctets ≤ length us)
+
+-- ---- which point an update means
 
 -- the place found, where the point there has the update's type
 abbrev pub targetOn : List ℕ → Update → Spot → Target
@@ -36,14 +40,32 @@ targetIn m u NotPlanned = Skipped
 unfoldable pub targetAt : List ℕ → Update → Target
 targetAt m u = targetIn m u (seatAt m (u .ca))
 
+-- ---- storing and telling
+
 -- the memory with an element of a type, which lies in `src` at `from`, stored at a place
 unfoldable pub stored : List ℕ → ℕ → ℕ → List ℕ → ℕ → List ℕ
-stored m place kind src from = over m (place + 10) (take (pointOctets kind) (drop from src))
+stored m place kind src from = over m (place + valueOffset) (take (pointOctets kind) (drop from src))
 
--- what the update at `at` tells, of the table in a memory
+-- the most octets that one update tells
+abbrev pub mostTold : ℕ
+mostTold = headerOctets + addressOctets + valueSize
+
+-- what the update at `at` tells, of the table in a memory, and the memory that it leaves
 abbrev pub toldOne : List ℕ → List ℕ → ℕ → List ℕ
 toldOne m us at = toldOf (updateAt us at) (updateOf (tableOf m) (updateAt us at))
 
--- the memory that it leaves
-abbrev pub leftBy : List ℕ → List ℕ → ℕ → List ℕ
-leftBy m us at = holding m (tableOf m) (tableWith (tableOf m) (updateAt us at) (updateOf (tableOf m) (updateAt us at)))
+abbrev pub leftOne : List ℕ → List ℕ → ℕ → List ℕ
+leftOne m us at = holding m (tableOf m) (tableWith (tableOf m) (updateAt us at) (updateOf (tableOf m) (updateAt us at)))
+
+-- the same of n updates, one after another
+abbrev pub toldByAll : List ℕ → List ℕ → ℕ → ℕ → List ℕ
+toldByAll m us at n = toldBy (tableOf m) (updatesAt us at n)
+
+abbrev pub leftByAll : List ℕ → List ℕ → ℕ → ℕ → List ℕ
+leftByAll m us at n = holding m (tableOf m) (tableAfter (tableOf m) (updatesAt us at n))
+
+-- the table's memory is left so, what is told stands in the output from o on, and its end comes back
+pub record Applies (left told before : List ℕ) (o r : ℕ) (m out : List ℕ) : Type 0 where
+  pub reach : r ≡ o + length told
+  pub memory : m ≡ left
+  pub output : out ≡ over before o told

@@ -8,7 +8,8 @@ use Rattle.limits.specs.Test.{total}
 use Rattle.limits.specs.Share.{heldOf, unmetOf, admissionOf, admissionIn}
 use Rattle.octets.specs.Number.{two}
 use Rattle.table.specs.Table.{Station, held, shareOf}
-use Rattle.table.specs.Memory.{pointsAt, stationsAt, tableOf, sumAt, heldAt, unmetAt}
+use Rattle.layout.specs.Layout.{heldAt}
+use Rattle.table.specs.Memory.{pointsAt, stationsAt, tableOf, sumAt, unmetAt}
 use Rattle.table.proofs.Points.{length-pointsAt}
 use Rattle.table.proofs.Stations.{sum-held, sum-unmet}
 use Rattle.table.proofs.Shares.{total-held, total-unmet}

@@ -1,64 +1,80 @@
 // The test for well-formedness of a table in lent memory. It has no condition: any octets, any length.
+use layout::HEAD_SIZE;
+use layout::MARK;
+use layout::MOST_PLACES;
+use layout::MOST_STATIONS;
+use layout::PLACE_SIZE;
+use layout::SETTINGS_OFFSET;
+use layout::SETTINGS_SIZE;
+use layout::SPARE_OFFSET;
+use layout::SPARE_SIZE;
+use layout::STATION_SIZE;
 use limits::share::Share;
+use model::PLACE_LIMITS;
 ghost use mathlib.Core.Path.{_≡_};
 ghost use Prim.Native.Nat.{_+_, _*_, _-_, _≤_, _<_};
 ghost use lib.ListN.{length};
-ghost use Rattle.octets.specs.Number.{two};
+ghost use Rattle.layout.specs.Layout.{headSize, placeSize, stationSize, mostStations, afterPlaces, heldAt};
 ghost use Rattle.model.specs.Limits.{placeLimits};
-ghost use Rattle.wellformed.specs.Station.{shareAt, placesAt};
+ghost use Rattle.wellformed.specs.Station.{shareAt, AddedUp, placesAt};
 ghost use Rattle.table.specs.Table.{numbersOk, sharesOk};
-ghost use Rattle.table.specs.Memory.{sumAt, reservedAt, heldAt, unmetAt, planAt, bodiesAt, markAt, headAt, sharesAt, wellFormed};
+ghost use Rattle.table.specs.Memory.{sumAt, numbersAt, planAt, bodiesAt, markAt, settingsAt, headAt, sharesAt, wellFormed};
 
 // ---- the head
 
 // The mark 4B 48 56 01.
 fn mark_ok(m: &[u8]) -> bool
-    requires { ⌜ 64 ≤ length (now m) ⌝ }
+    requires { ⌜ headSize ≤ length (now m) ⌝ }
     ensures { λ r. ⌜ r ≡ markAt (now (m .entry)) ⌝ }
 {
-    if m[0] != 75 {
-        return false;
-    }
-    if m[1] != 72 {
-        return false;
-    }
-    if m[2] != 86 {
-        return false;
-    }
-    m[3] == 1
+    octets::four_at(m, 0) == MARK
 }
 
-// The mark, K from 1 to 4,096, 1 to 64 stations, memory enough, spare octets zero.
+// The settings. Today there are none, and their octets are zero.
+fn settings_ok(m: &[u8]) -> bool
+    requires { ⌜ headSize ≤ length (now m) ⌝ }
+    ensures { λ r. ⌜ r ≡ settingsAt (now (m .entry)) ⌝ }
+{
+    octets::all_zero(m, SETTINGS_OFFSET, SETTINGS_SIZE)
+}
+
+// The mark, K from 1 to 4,096, 1 to 64 stations, memory enough, the settings, spare octets zero.
 fn head_ok(m: &[u8]) -> bool
     ensures { λ r. ⌜ r ≡ headAt (now (m .entry)) ⌝ }
 {
-    if m.len() < 64 {
+    if m.len() < HEAD_SIZE {
         return false;
     }
     if !mark_ok(m) {
         return false;
     }
-    let k = octets::two_at(m, 4);
-    let n = octets::two_at(m, 6);
+    let k = layout::capacity_of(m);
+    let n = layout::stations_of(m);
     if k < 1 {
         return false;
     }
-    if 4096 < k {
+    if MOST_PLACES < k {
         return false;
     }
     if n < 1 {
         return false;
     }
-    if 64 < n {
+    if MOST_STATIONS < n {
         return false;
     }
-    if m.len() < 64 + 48 * k + 8 * n {
+    if m.len() < layout::size_of(m) {
         return false;
     }
-    octets::all_zero(m, 10, 54)
+    if !settings_ok(m) {
+        return false;
+    }
+    octets::all_zero(m, SPARE_OFFSET, SPARE_SIZE)
 }
 
 // ---- the plan
+
+// The highest common address of a station; 65,535 means all stations.
+const HIGHEST_CA: usize = 65534;
 
 // CA from `low` to 65,534, r ≤ c ≤ K, held ≤ c.
 pub fn numbers_ok(k: usize, low: usize, ca: usize, r: usize, c: usize, h: usize) -> bool
@@ -67,7 +83,7 @@ pub fn numbers_ok(k: usize, low: usize, ca: usize, r: usize, c: usize, h: usize)
     if ca < low {
         return false;
     }
-    if 65534 < ca {
+    if HIGHEST_CA < ca {
         return false;
     }
     if c < r {
@@ -81,19 +97,19 @@ pub fn numbers_ok(k: usize, low: usize, ca: usize, r: usize, c: usize, h: usize)
 
 // The same of the eight octets from `at`.
 fn station_ok(m: &[u8], at: usize, k: usize, low: usize) -> bool
-    requires { ⌜ at + 8 ≤ length (now m) ⌝ }
-    ensures { λ ok. ⌜ ok ≡ numbersOk k low (two (now (m .entry)) at) (two (now (m .entry)) (at + 2)) (two (now (m .entry)) (at + 4)) (two (now (m .entry)) (at + 6)) ⌝ }
+    requires { ⌜ at + stationSize ≤ length (now m) ⌝ }
+    ensures { λ ok. ⌜ ok ≡ numbersAt (now (m .entry)) k low at ⌝ }
 {
-    let ca = octets::two_at(m, at);
-    let r = octets::two_at(m, at + 2);
-    let c = octets::two_at(m, at + 4);
-    let h = octets::two_at(m, at + 6);
+    let ca = layout::ca_at(m, at);
+    let r = layout::reservation_at(m, at);
+    let c = layout::ceiling_at(m, at);
+    let h = layout::held_at(m, at);
     numbers_ok(k, low, ca, r, c, h)
 }
 
 // The same of n stations, CA strictly ascending.
 fn plan_ok(m: &[u8], k: usize, at: usize, n: usize) -> bool
-    requires { ⌜ at + 8 * n ≤ length (now m) ⌝ }
+    requires { ⌜ at + stationSize * n ≤ length (now m) ⌝ }
     ensures { λ r. ⌜ r ≡ planAt (now (m .entry)) k 1 at n ⌝ }
 {
     let mut station = at;
@@ -103,8 +119,8 @@ fn plan_ok(m: &[u8], k: usize, at: usize, n: usize) -> bool
         if !station_ok(m, station, k, low) {
             return false;
         }
-        low = octets::two_at(m, station) + 1;
-        station += 8;
+        low = layout::ca_at(m, station) + 1;
+        station += STATION_SIZE;
         left -= 1;
     }
     true
@@ -121,12 +137,12 @@ pub struct Sums {
 
 // The share of the station whose eight octets start at `at`.
 pub fn share_at(m: &[u8], at: usize) -> Share
-    requires { ⌜ at + 8 ≤ length (now m) ⌝ }
+    requires { ⌜ at + stationSize ≤ length (now m) ⌝ }
     ensures { λ s. ⌜ (s ≡ shareAt (now (m .entry)) at) × (s .held < 65536) × (s .reservation < 65536) ⌝ }
 {
-    let r = octets::two_at(m, at + 2);
-    let c = octets::two_at(m, at + 4);
-    let h = octets::two_at(m, at + 6);
+    let r = layout::reservation_at(m, at);
+    let c = layout::ceiling_at(m, at);
+    let h = layout::held_at(m, at);
     Share {
         held: h,
         reservation: r,
@@ -136,8 +152,8 @@ pub fn share_at(m: &[u8], at: usize) -> Share
 
 // Reservations, held and unmet room of the n stations from `at`, each added up.
 pub fn add_up(m: &[u8], at: usize, n: usize) -> Sums
-    requires { ⌜ (at + 8 * n ≤ length (now m)) × (n ≤ 64) ⌝ }
-    ensures { λ s. ⌜ (s .reserved ≡ sumAt reservedAt (now (m .entry)) at n) × (s .held ≡ sumAt heldAt (now (m .entry)) at n) × (s .unmet ≡ sumAt unmetAt (now (m .entry)) at n) ⌝ }
+    requires { ⌜ (at + stationSize * n ≤ length (now m)) × (n ≤ mostStations) ⌝ }
+    ensures { λ s. ⌜ AddedUp (now (m .entry)) at n s ⌝ }
 {
     let mut station = at;
     let mut left = n;
@@ -149,7 +165,7 @@ pub fn add_up(m: &[u8], at: usize, n: usize) -> Sums
         reserved += s.reservation;
         held += s.held;
         unmet += s.unmet();
-        station += 8;
+        station += STATION_SIZE;
         left -= 1;
     }
     Sums {
@@ -174,7 +190,7 @@ fn shares_ok(k: usize, r: usize, h: usize, u: usize) -> bool
 
 // The stations' numbers, and the head's number of points.
 fn plan_and_shares(m: &[u8], k: usize, at: usize, n: usize, points: usize) -> bool
-    requires { ⌜ (at + 8 * n ≤ length (now m)) × (n ≤ 64) ⌝ }
+    requires { ⌜ (at + stationSize * n ≤ length (now m)) × (n ≤ mostStations) ⌝ }
     ensures { λ r. ⌜ r ≡ sharesAt (now (m .entry)) k at n points ⌝ }
 {
     if !plan_ok(m, k, at, n) {
@@ -189,22 +205,22 @@ fn plan_and_shares(m: &[u8], k: usize, at: usize, n: usize, points: usize) -> bo
 
 // ---- the places
 
-// Each station's places, station after station from 64 on. `limits` are those of `place_limits`.
-fn bodies_ok(m: &[u8], at: usize, n: usize, limits: &[usize; 123]) -> bool
-    requires { ⌜ (at + 8 * n ≤ length (now m)) × (64 + 48 * sumAt heldAt (now m) at n ≤ length (now m)) × (now limits ≡ placeLimits) ⌝ }
-    ensures { λ r. ⌜ r ≡ bodiesAt (now (m .entry)) 64 at n ⌝ }
+// Each station's places, station after station. `limits` are those of `place_limits`.
+fn bodies_ok(m: &[u8], at: usize, n: usize, limits: &[usize; PLACE_LIMITS]) -> bool
+    requires { ⌜ (at + stationSize * n ≤ length (now m)) × (headSize + placeSize * sumAt heldAt (now m) at n ≤ length (now m)) × (now limits ≡ placeLimits) ⌝ }
+    ensures { λ r. ⌜ r ≡ bodiesAt (now (m .entry)) headSize at n ⌝ }
 {
-    let mut place = 64;
+    let mut place = HEAD_SIZE;
     let mut station = at;
     let mut left = n;
     while 0 < left {
-        let ca = octets::two_at(m, station);
-        let h = octets::two_at(m, station + 6);
+        let ca = layout::ca_at(m, station);
+        let h = layout::held_at(m, station);
         if !model::places_ok(m, place, ca, h, limits) {
             return false;
         }
-        place += 48 * h;
-        station += 8;
+        place += PLACE_SIZE * h;
+        station += STATION_SIZE;
         left -= 1;
     }
     true
@@ -212,14 +228,18 @@ fn bodies_ok(m: &[u8], at: usize, n: usize, limits: &[usize; 123]) -> bool
 
 // The places of n stations and the unused places after them.
 fn places_and_unused(m: &[u8], k: usize, n: usize, points: usize) -> bool
-    requires { ⌜ (64 + 48 * k + 8 * n ≤ length (now m)) × (points ≤ k) × (points ≡ sumAt heldAt (now m) (64 + 48 * k) n) ⌝ }
+    requires { ⌜ (afterPlaces k + stationSize * n ≤ length (now m)) × (points ≤ k) × (points ≡ sumAt heldAt (now m) (afterPlaces k) n) ⌝ }
     ensures { λ r. ⌜ r ≡ placesAt (now (m .entry)) k n points ⌝ }
 {
     let limits = model::place_limits();
-    if !bodies_ok(m, 64 + 48 * k, n, &limits) {
+    if !bodies_ok(m, HEAD_SIZE + PLACE_SIZE * k, n, &limits) {
         return false;
     }
-    octets::all_zero(m, 64 + 48 * points, 48 * (k - points))
+    octets::all_zero(
+        m,
+        HEAD_SIZE + PLACE_SIZE * points,
+        PLACE_SIZE * (k - points),
+    )
 }
 
 // Does the memory hold a well-formed table?
@@ -229,10 +249,10 @@ pub fn well_formed(m: &[u8]) -> bool
     if !head_ok(m) {
         return false;
     }
-    let k = octets::two_at(m, 4);
-    let n = octets::two_at(m, 6);
-    let points = octets::two_at(m, 8);
-    if !plan_and_shares(m, k, 64 + 48 * k, n, points) {
+    let k = layout::capacity_of(m);
+    let n = layout::stations_of(m);
+    let points = layout::points_of(m);
+    if !plan_and_shares(m, k, HEAD_SIZE + PLACE_SIZE * k, n, points) {
         return false;
     }
     places_and_unused(m, k, n, points)

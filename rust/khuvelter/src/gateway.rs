@@ -2,9 +2,10 @@
 
 use std::fmt;
 
+use khuvelter_sys as sys;
+
 use crate::answer::{Answer, ProcessAnswer};
 use crate::fault::{Fault, Refusal};
-use crate::ffi;
 use crate::plan::{table_octets, Station};
 use crate::point::Point;
 use crate::proposal::Proposal;
@@ -53,7 +54,7 @@ impl Gateway {
         let granted = capacity.min(MOST_POINTS);
         let mut table = vec![0; table_octets(granted, plan.len())];
         let numbers: Vec<u16> = plan.iter().flat_map(|s| [s.ca, s.reservation, s.ceiling]).collect();
-        done(ffi::open(&mut table, capacity, &numbers))?;
+        done(sys::open(&mut table, capacity, &numbers))?;
         let room = vec![0; Self::most_system_answer(granted)];
         Ok(Self { capacity, plan: plan.to_vec(), table, clock: [0; 8], room })
     }
@@ -104,7 +105,7 @@ impl Gateway {
     /// # Ok::<(), khuvelter::Refusal>(())
     /// ```
     pub fn register(&mut self, point: &Point) -> Result<(), Refusal> {
-        done(ffi::register_point(&mut self.table, &point.record()))
+        done(sys::register_point(&mut self.table, &point.record()))
     }
 
     /// Registers a batch of points, all or none.
@@ -126,7 +127,7 @@ impl Gateway {
     /// ```
     pub fn register_all(&mut self, points: &[Point]) -> Result<(), Refusal> {
         let records: Vec<u8> = points.iter().flat_map(Point::record).collect();
-        let reply = ffi::register_points(&mut self.table, &records);
+        let reply = sys::register_points(&mut self.table, &records);
         match Fault::from_number(reply.number) {
             None => Ok(()),
             Some(Fault::TableNotWellFormed) => Err(Refusal::of(Fault::TableNotWellFormed)),
@@ -150,7 +151,7 @@ impl Gateway {
     /// # Ok::<(), khuvelter::Refusal>(())
     /// ```
     pub fn unregister(&mut self, ca: u16, ioa: u32) -> Result<(), Refusal> {
-        done(ffi::unregister_point(&mut self.table, ca, ioa))
+        done(sys::unregister_point(&mut self.table, ca, ioa))
     }
 
     /// Removes all points and gives back how many there were; the plan stays.
@@ -168,7 +169,7 @@ impl Gateway {
     /// # Ok::<(), khuvelter::Refusal>(())
     /// ```
     pub fn unregister_all(&mut self) -> Result<usize, Refusal> {
-        let reply = ffi::unregister_all(&mut self.table);
+        let reply = sys::unregister_all(&mut self.table);
         done(reply)?;
         Ok(reply.place as usize)
     }
@@ -188,7 +189,7 @@ impl Gateway {
     /// # Ok::<(), khuvelter::Refusal>(())
     /// ```
     pub fn share(&self, ca: u16) -> Result<Share, Refusal> {
-        let ffi::StationShare { number, reservation, ceiling, held, free, unmet } = ffi::share(&self.table, ca);
+        let sys::StationShare { number, reservation, ceiling, held, free, unmet } = sys::share(&self.table, ca);
         match Fault::from_number(number) {
             None => Ok(Share { ca, reservation, ceiling, held, free, unmet }),
             Some(fault) => Err(Refusal::of(fault)),
@@ -240,7 +241,7 @@ impl Gateway {
     ///
     /// 4, if the memory has fewer than ten octets.
     pub fn connection_started_into(&self, answer: &mut [u8]) -> Result<usize, Refusal> {
-        let reply = ffi::connection_started(&self.table, answer);
+        let reply = sys::connection_started(&self.table, answer);
         done(reply)?;
         Ok(reply.octets as usize)
     }
@@ -263,7 +264,7 @@ impl Gateway {
     /// # Ok::<(), khuvelter::Refusal>(())
     /// ```
     pub fn system_command(&mut self, asdu: &[u8]) -> Result<Answer, Refusal> {
-        let reply = ffi::system_command(&mut self.table, &mut self.clock, asdu, &mut self.room);
+        let reply = sys::system_command(&mut self.table, &mut self.clock, asdu, &mut self.room);
         done(reply)?;
         Ok(Answer::of(&self.room[..reply.octets as usize]))
     }
@@ -292,7 +293,7 @@ impl Gateway {
     /// # Ok::<(), khuvelter::Refusal>(())
     /// ```
     pub fn system_command_into(&mut self, asdu: &[u8], answer: &mut [u8]) -> Result<usize, Refusal> {
-        let reply = ffi::system_command(&mut self.table, &mut self.clock, asdu, answer);
+        let reply = sys::system_command(&mut self.table, &mut self.clock, asdu, answer);
         done(reply)?;
         Ok(reply.octets as usize)
     }
@@ -352,7 +353,7 @@ impl Gateway {
         spontaneous: &mut [u8],
     ) -> Result<(usize, usize), Refusal> {
         let updates = proposal.updates_octets();
-        let reply = ffi::process_command(&mut self.table, asdu, &proposal.flat(&updates), answer, spontaneous);
+        let reply = sys::process_command(&mut self.table, asdu, proposal.flat(&updates), answer, spontaneous);
         done(reply)?;
         Ok((reply.octets as usize, reply.spontaneous as usize))
     }
@@ -370,6 +371,6 @@ impl fmt::Debug for Gateway {
 }
 
 /// Done or silent is fine; any other number is a refusal.
-fn done(reply: ffi::Reply) -> Result<(), Refusal> {
+fn done(reply: sys::Reply) -> Result<(), Refusal> {
     Fault::from_number(reply.number).map_or(Ok(()), |fault| Err(Refusal::of(fault)))
 }

@@ -25,7 +25,7 @@
 //! octets, any table and any call there is an answer and an end; a refused call has changed nothing; no station ever gets above its
 //! ceiling, and a station below its reservation is never refused for room. This crate adds what Rust can give: the table's memory is
 //! the gateway's own, the borrow rules keep the memories of a call apart, and a refusal is an [`Error`](std::error::Error) with its
-//! number and words. The crate has one file with `unsafe`, `ffi.rs`, which hands slices over; nothing outside it has any.
+//! number and words. Nothing here is `unsafe`: `khuvelter-sys`, below it, hands slices over and has all of that.
 //!
 //! # Numbers
 //!
@@ -35,14 +35,10 @@
 mod answer;
 mod asdu;
 mod fault;
-#[allow(unsafe_code)]
-mod ffi;
 mod gateway;
 pub mod plan;
 mod point;
 mod proposal;
-#[cfg(test)]
-mod replay;
 mod share;
 pub mod types;
 

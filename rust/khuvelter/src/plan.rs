@@ -174,5 +174,5 @@ pub fn ceilings(stations: &[Station]) -> u32 {
 /// The octets of the table of a plan: 48 for each point, 8 for each station, 64 for the head.
 #[must_use]
 pub const fn table_octets(capacity: u32, stations: usize) -> usize {
-    48 * capacity as usize + 8 * stations + 64
+    khuvelter_sys::table_octets(capacity, stations)
 }

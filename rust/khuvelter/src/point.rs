@@ -1,10 +1,6 @@
 //! A point as it is registered.
 
-/// Octets of a point's record in the C interface.
-const RECORD: usize = 24;
-
-/// The most octets of an element.
-const VALUE: usize = 12;
+use khuvelter_sys::{Record, RECORD, VALUE};
 
 /// The octets of a point's element: up to twelve, the rest zero. Octets past the type's element are ignored and kept as zero.
 #[derive(Clone, Copy, Debug, Default, PartialEq, Eq, Hash)]
@@ -79,20 +75,9 @@ impl Point {
         Self { counter_group: Some(group), ..self }
     }
 
-    /// Its record: CA 2, IOA 4, type 1, has a group 1, group 1, has a counter group 1, counter group 1, spare 1, value 12.
+    /// Its record in the C interface.
     pub(crate) fn record(&self) -> [u8; RECORD] {
-        let mut record = [0; RECORD];
-        record[..2].copy_from_slice(&self.ca.to_le_bytes());
-        record[2..6].copy_from_slice(&self.ioa.to_le_bytes());
-        record[6] = self.type_id;
-        record[7..9].copy_from_slice(&flag_and_group(self.group));
-        record[9..11].copy_from_slice(&flag_and_group(self.counter_group));
-        record[12..].copy_from_slice(self.value.octets());
-        record
+        let Self { ca, ioa, type_id, value, group, counter_group } = *self;
+        Record { ca, ioa, type_id, group, counter_group, value: *value.octets() }.octets()
     }
-}
-
-/// Whether there is a group, and which.
-fn flag_and_group(group: Option<u8>) -> [u8; 2] {
-    group.map_or([0, 0], |group| [1, group])
 }

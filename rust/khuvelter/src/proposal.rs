@@ -1,6 +1,7 @@
 //! What the program that uses the gateway proposes to say and to store for a process command.
 
-use crate::ffi::FlatProposal;
+use khuvelter_sys as sys;
+
 use crate::point::Value;
 use crate::LARGEST_IOA;
 
@@ -24,11 +25,10 @@ impl Update {
         Self { ca, ioa, type_id, value: value.into() }
     }
 
-    /// Its octets: CA 2, IOA 3, type 1, value 12; none if no point can have its address.
-    fn octets(&self) -> Option<impl Iterator<Item = u8>> {
-        let ioa = self.ioa.to_le_bytes();
-        let head = [self.ca.to_le_bytes()[0], self.ca.to_le_bytes()[1], ioa[0], ioa[1], ioa[2], self.type_id];
-        (self.ioa <= LARGEST_IOA).then(|| head.into_iter().chain(*self.value.octets()))
+    /// Its octets; none if no point can have its address.
+    fn octets(&self) -> Option<[u8; sys::UPDATE]> {
+        let Self { ca, ioa, type_id, value } = *self;
+        (ioa <= LARGEST_IOA).then(|| sys::Update { ca, ioa, type_id, value: *value.octets() }.octets())
     }
 }
 
@@ -100,7 +100,7 @@ impl Proposal {
     }
 
     /// The proposal as the C interface takes it.
-    pub(crate) fn flat<'a>(&'a self, updates: &'a [u8]) -> FlatProposal<'a> {
-        FlatProposal { negative: self.negative, reply_type: self.reply_type, reply: &self.reply, updates }
+    pub(crate) fn flat<'a>(&'a self, updates: &'a [u8]) -> sys::Proposal<'a> {
+        sys::Proposal { negative: u8::from(self.negative), reply_type: self.reply_type, reply: &self.reply, updates }
     }
 }

@@ -1,6 +1,6 @@
 //! Every number of document 01 through the safe interface, and that a refusal changes nothing.
 //!
-//! Excluded by its types, and reached in `src/ffi.rs` instead: 3 (the gateway owns its table, and every call keeps it well formed), and
+//! Excluded by its types, and reached in `khuvelter-sys/tests/interface.rs` instead: 3 (the gateway owns its table, and every call keeps it well formed), and
 //! 10 for a table memory that is too short or a plan that is not three numbers for each station. Numbers 4 and 5 are excluded from
 //! `system_command` and `process_command`, which bring memory that always suffices, and reached through the calls that lend memory.
 

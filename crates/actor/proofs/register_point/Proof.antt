@@ -1,21 +1,14 @@
 -- No table, no station, or what registration at the seat says. Assumes nothing.
 use borrow.Author.Tests.{not-true, not-false}
-use mathlib.Core.Path.{_≡_, sym, ap, ap₂, _∙_}
+use mathlib.Core.Path.{_≡_, sym, _∙_}
 use mathlib.Core.Bool.{true, false}
-use Prim.Native.Nat.{ℕ, _+_, _*_, _≤_, _<_}
 use denote.Ref.{now}
-use Rattle.limits.specs.Outcome.{isDone}
-use Rattle.octets.specs.Number.{two, Octets}
-use Rattle.model.specs.Request.{ownFault, pointOf}
-use Rattle.table.specs.Memory.{wellFormed, parse}
+use Rattle.octets.specs.Number.{Octets}
+use Rattle.table.specs.Memory.{wellFormed}
 use Rattle.table.proofs.Parse.{passed}
-use Rattle.seats.specs.Seats.{seatAt}
-use Rattle.seats.specs.Find.{findAt}
-use Rattle.seats.specs.declared.Seat.the-variants.{Here, NotPlanned}
-use Rattle.seats.specs.declared.Spot.the-variants.{Held, Missing}
-use Rattle.seats.proofs.Laws.{seat-law}
 use Rattle.registry.specs.Registry.{registering}
-use Rattle.actor.proofs.Register.{Ends, ends-no-table, register-absent}
+use Rattle.replies.proofs.Ways.{no-table}
+use Rattle.actor.proofs.Register.{register-absent}
 use borrow.Author.Needs.{needs}
 use native.Mathlib.Omega.{arith}
 use Rattle.actor.proofs.register_point.Statement.{statement}
@@ -32,20 +25,23 @@ same-length c = search needs
 
 returns : tie.Need-returns
 returns c =
-    let a = c .before .before .before .before .before .args in
+    let at-start = c .before .before .before .before .before in
+    let a = at-start .args in
     let m = now (a .table) in
     let w : wellFormed m ≡ false = sym (c .before .before .well-formed .ensures) ∙ not-true _ (c .before .if1 .taken) in
-    let z = ends-no-table (registering (a .q)) m w in
-    (c .reply-of .ensures ∙ z .replies, z .leaves)
+    let z = no-table (registering (a .q)) m w in
+    (c .reply-of .ensures ∙ z .0, z .1)
 
 cast-seat-at : tie.Need-cast-seat-at
 cast-seat-at c = search needs
 
 seat-at-requires : tie.Need-seat-at-requires
 seat-at-requires c κs =
-    let a = c .before .before .before .before .before .before .args in
+    let at-well-formed = c .before .before .before in
+    let at-start = at-well-formed .before .before .before in
+    let a = at-start .args in
     let m = now (a .table) in
-    let w : wellFormed m ≡ true = sym (c .before .before .before .well-formed .ensures) ∙ not-false _ (c .before .before .if1 .left) in
+    let w : wellFormed m ≡ true = sym (at-well-formed .well-formed .ensures) ∙ not-false _ (c .before .before .if1 .left) in
     let top = passed m w .top in
     let high = top .s-high in
     let room = top .room in
@@ -68,21 +64,30 @@ same-length-2 c = search needs
 
 returns-2 : tie.Need-returns-2
 returns-2 c =
-    let a = c .before .before .before .before .before .before .before .before .before .before .before .args in
+    let at-seat-at = c .before .before .before .before in
+    let at-if1 = at-seat-at .before .before .before in
+    let at-well-formed = at-if1 .before in
+    let at-slice-known = at-well-formed .before .before in
+    let at-start = at-slice-known .before in
+    let a = at-start .args in
     let m = now (a .table) in
-    let w : wellFormed m ≡ true = sym (c .before .before .before .before .before .before .before .before .well-formed .ensures) ∙ not-false _ (c .before .before .before .before .before .before .before .if1 .left) in
-    let o : Octets m = λ k. omega (arith, c .before .before .before .before .before .before .before .before .before .before .slice-known .given k) in
-    let z = register-absent m o w (a .q) (sym (c .before .before .before .before .seat-at .ensures) ∙ c .before .before .enum-told .given .1) in
+    let w : wellFormed m ≡ true = sym (at-well-formed .well-formed .ensures) ∙ not-false _ (at-if1 .if1 .left) in
+    let o : Octets m = λ k. omega (arith, at-slice-known .slice-known .given k) in
+    let z = register-absent m o w (a .q) (sym (at-seat-at .seat-at .ensures) ∙ c .before .before .enum-told .given .1) in
     let e = c .before .own-fault .ensures in
-    (c .reply-of2 .ensures ∙ (λ j. record { outcome = e j; place = 0 }) ∙ z .replies, z .leaves)
+    (c .reply-of2 .ensures ∙ (λ j. record { outcome = e j; place = 0 }) ∙ z .0, z .1)
 
 register-here-requires : tie.Need-register-here-requires
 register-here-requires c κs =
-    let a = c .before .before .before .before .before .before .before .before .before .before .before .args in
+    let at-seat-at = c .before .before .before .before in
+    let at-if1 = at-seat-at .before .before .before in
+    let at-well-formed = at-if1 .before in
+    let at-start = at-well-formed .before .before .before in
+    let a = at-start .args in
     let m = now (a .table) in
-    let w : wellFormed m ≡ true = sym (c .before .before .before .before .before .before .before .before .well-formed .ensures) ∙ not-false _ (c .before .before .before .before .before .before .before .if1 .left) in
+    let w : wellFormed m ≡ true = sym (at-well-formed .well-formed .ensures) ∙ not-false _ (at-if1 .if1 .left) in
     let g = c .before .before .i .given in
-    (w, sym (c .before .before .before .before .seat-at .ensures) ∙ g .1)
+    (w, sym (at-seat-at .seat-at .ensures) ∙ g .1)
 
 same-length-3 : tie.Need-same-length-3
 same-length-3 c = search needs

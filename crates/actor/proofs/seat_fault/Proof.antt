@@ -7,7 +7,6 @@ use Rattle.model.specs.Request.{ownFault}
 use Rattle.actor.specs.Actor.{spotFault}
 use Rattle.actor.proofs.Register.{own-refused, own-passed}
 use borrow.Author.Needs.{needs}
-use native.Mathlib.Omega.{arith}
 use Rattle.actor.proofs.seat_fault.Statement.{statement}
 use Rattle.actor.proofs.seat_fault.Tie as tie
 

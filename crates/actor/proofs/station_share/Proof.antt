@@ -1,18 +1,13 @@
 -- Each way out is one law of shares. Assumes nothing.
 use borrow.Author.Tests.{not-true, not-false}
-use mathlib.Core.Path.{_≡_, sym, ap, ap₂, _∙_}
+use mathlib.Core.Path.{_≡_, sym, _∙_}
 use mathlib.Core.Bool.{true, false}
-use Prim.Native.Nat.{ℕ, _+_, _*_, _≤_, _<_}
 use denote.Ref.{now}
-use Rattle.limits.specs.Outcome.{isDone}
-use Rattle.octets.specs.Number.{two, Octets}
-use Rattle.model.specs.Request.{ownFault, pointOf}
-use Rattle.table.specs.Memory.{wellFormed, parse}
+use Rattle.octets.specs.Number.{Octets}
+use Rattle.table.specs.Memory.{wellFormed}
 use Rattle.table.proofs.Parse.{passed}
 use Rattle.seats.specs.Seats.{seatAt}
-use Rattle.seats.specs.Find.{findAt}
-use Rattle.seats.specs.declared.Seat.the-variants.{Here, NotPlanned}
-use Rattle.seats.specs.declared.Spot.the-variants.{Held, Missing}
+use Rattle.seats.specs.declared.Seat.the-variants.{Here}
 use Rattle.seats.proofs.Laws.{seat-law}
 use Rattle.actor.proofs.Unregister.{share-no-table, share-absent, share-found}
 use borrow.Author.Needs.{needs}
@@ -28,14 +23,16 @@ no-share-requires c κs = search needs
 
 returns : tie.Need-returns
 returns c =
-    let a = c .before .before .before .before .args in
+    let at-start = c .before .before .before .before in
+    let a = at-start .args in
     let m = now (a .table) in
     let w : wellFormed m ≡ false = sym (c .before .before .well-formed .ensures) ∙ not-true _ (c .before .if1 .taken) in
     c .no-share .ensures ∙ share-no-table m (a .ca) w
 
 seat-at-requires : tie.Need-seat-at-requires
 seat-at-requires c κs =
-    let a = c .before .before .before .args in
+    let at-start = c .before .before .before in
+    let a = at-start .args in
     let m = now (a .table) in
     let w : wellFormed m ≡ true = sym (c .before .well-formed .ensures) ∙ not-false _ (c .if1 .left) in
     let top = passed m w .top in
@@ -54,19 +51,28 @@ no-share-requires-2 c κs = search needs
 
 returns-2 : tie.Need-returns-2
 returns-2 c =
-    let a = c .before .before .before .before .before .before .before .args in
+    let at-seat-at = c .before .before .before in
+    let at-if1 = at-seat-at .before in
+    let at-well-formed = at-if1 .before in
+    let at-start = at-well-formed .before .before in
+    let a = at-start .args in
     let m = now (a .table) in
-    let w : wellFormed m ≡ true = sym (c .before .before .before .before .before .well-formed .ensures) ∙ not-false _ (c .before .before .before .before .if1 .left) in
-    c .no-share2 .ensures ∙ share-absent m w (a .ca) (sym (c .before .before .before .seat-at .ensures) ∙ c .before .enum-told .given .1)
+    let w : wellFormed m ≡ true = sym (at-well-formed .well-formed .ensures) ∙ not-false _ (at-if1 .if1 .left) in
+    c .no-share2 .ensures ∙ share-absent m w (a .ca) (sym (at-seat-at .seat-at .ensures) ∙ c .before .enum-told .given .1)
 
 share-here-requires : tie.Need-share-here-requires
 share-here-requires c κs =
-    let a = c .before .before .before .before .before .before .before .args in
+    let at-seat-at = c .before .before .before in
+    let at-if1 = at-seat-at .before in
+    let at-well-formed = at-if1 .before in
+    let at-shared-slice-known = at-well-formed .before in
+    let at-start = at-shared-slice-known .before in
+    let a = at-start .args in
     let m = now (a .table) in
-    let w : wellFormed m ≡ true = sym (c .before .before .before .before .before .well-formed .ensures) ∙ not-false _ (c .before .before .before .before .if1 .left) in
-    let o : Octets m = λ k. omega (arith, c .before .before .before .before .before .before .shared-slice-known .given k) in
+    let w : wellFormed m ≡ true = sym (at-well-formed .well-formed .ensures) ∙ not-false _ (at-if1 .if1 .left) in
+    let o : Octets m = λ k. omega (arith, at-shared-slice-known .shared-slice-known .given k) in
     let g = c .before .i .given in
-    let s : seatAt m (a .ca) ≡ Here (g .0 .0) (g .0 .1 .0) (g .0 .1 .1 .0) = sym (c .before .before .before .seat-at .ensures) ∙ g .1 in
+    let s : seatAt m (a .ca) ≡ Here (g .0 .0) (g .0 .1 .0) (g .0 .1 .1 .0) = sym (at-seat-at .seat-at .ensures) ∙ g .1 in
     let z = seat-law m (a .ca) (g .0 .0) (g .0 .1 .0) (g .0 .1 .1 .0) o w s in
     let i = z .stations in
     let q = passed m w in
@@ -77,12 +83,17 @@ share-here-requires c κs =
 
 returns-3 : tie.Need-returns-3
 returns-3 c =
-    let a = c .before .before .before .before .before .before .before .before .args in
+    let at-seat-at = c .before .before .before .before in
+    let at-if1 = at-seat-at .before in
+    let at-well-formed = at-if1 .before in
+    let at-shared-slice-known = at-well-formed .before in
+    let at-start = at-shared-slice-known .before in
+    let a = at-start .args in
     let m = now (a .table) in
-    let w : wellFormed m ≡ true = sym (c .before .before .before .before .before .before .well-formed .ensures) ∙ not-false _ (c .before .before .before .before .before .if1 .left) in
-    let o : Octets m = λ k. omega (arith, c .before .before .before .before .before .before .before .shared-slice-known .given k) in
+    let w : wellFormed m ≡ true = sym (at-well-formed .well-formed .ensures) ∙ not-false _ (at-if1 .if1 .left) in
+    let o : Octets m = λ k. omega (arith, at-shared-slice-known .shared-slice-known .given k) in
     let g = c .before .before .i .given in
-    let s : seatAt m (a .ca) ≡ Here (g .0 .0) (g .0 .1 .0) (g .0 .1 .1 .0) = sym (c .before .before .before .before .seat-at .ensures) ∙ g .1 in
+    let s : seatAt m (a .ca) ≡ Here (g .0 .0) (g .0 .1 .0) (g .0 .1 .1 .0) = sym (at-seat-at .seat-at .ensures) ∙ g .1 in
     c .share-here .ensures ∙ share-found m w (a .ca) o (g .0 .0) (g .0 .1 .0) (g .0 .1 .1 .0) s
 
 pub station-share-spec : {M : Type 1} → statement M

@@ -1,21 +1,13 @@
 -- Each way out is one law of removal. Assumes nothing.
 use borrow.Author.Tests.{not-true, not-false}
-use mathlib.Core.Path.{_≡_, sym, ap, ap₂, _∙_}
+use mathlib.Core.Path.{_≡_, sym, _∙_}
 use mathlib.Core.Bool.{true, false}
-use Prim.Native.Nat.{ℕ, _+_, _*_, _≤_, _<_}
 use denote.Ref.{now}
 use Rattle.limits.specs.declared.outcome.Outcome.the-variants.{Done}
-use Rattle.octets.specs.Number.{two, Octets}
-use Rattle.model.specs.Request.{ownFault, pointOf}
-use Rattle.table.specs.Memory.{wellFormed, parse}
-use Rattle.table.proofs.Parse.{passed}
-use Rattle.seats.specs.Seats.{seatAt}
-use Rattle.seats.specs.Find.{findAt}
-use Rattle.seats.specs.declared.Seat.the-variants.{Here, NotPlanned}
-use Rattle.seats.specs.declared.Spot.the-variants.{Held, Missing}
-use Rattle.seats.proofs.Laws.{seat-law}
+use Rattle.octets.specs.Number.{Octets}
+use Rattle.table.specs.Memory.{wellFormed}
 use Rattle.registry.specs.Registry.{unregisteringAll}
-use Rattle.actor.proofs.Register.{Ends, ends-no-table}
+use Rattle.replies.proofs.Ways.{no-table}
 use Rattle.actor.proofs.Unregister.{all-done}
 use Rattle.remove.proofs.Entry.{take-all-out-law}
 use borrow.Author.Needs.{needs}
@@ -34,18 +26,21 @@ same-length c = search needs
 
 returns : tie.Need-returns
 returns c =
-    let a = c .before .before .before .before .before .args in
+    let at-start = c .before .before .before .before .before in
+    let a = at-start .args in
     let m = now (a .table) in
     let w : wellFormed m ≡ false = sym (c .before .before .well-formed .ensures) ∙ not-true _ (c .before .if1 .taken) in
-    let z = ends-no-table unregisteringAll m w in
-    (c .reply-of .ensures ∙ z .replies, z .leaves)
+    let z = no-table unregisteringAll m w in
+    (c .reply-of .ensures ∙ z .0, z .1)
 
 take-all-out-requires : tie.Need-take-all-out-requires
 take-all-out-requires c κs =
-    let a = c .before .before .before .before .before .args in
+    let at-slice-known = c .before .before .before .before in
+    let at-start = at-slice-known .before in
+    let a = at-start .args in
     let m = now (a .table) in
     let w : wellFormed m ≡ true = sym (c .before .before .well-formed .ensures) ∙ not-false _ (c .before .if1 .left) in
-    let o : Octets m = λ k. omega (arith, c .before .before .before .before .slice-known .given k) in
+    let o : Octets m = λ k. omega (arith, at-slice-known .slice-known .given k) in
     let b = take-all-out-law m o w .bounds in
     (b .0, b .1)
 
@@ -54,13 +49,17 @@ same-length-2 c = search needs
 
 returns-2 : tie.Need-returns-2
 returns-2 c =
-    let a = c .before .before .before .before .before .before .before .before .args in
+    let at-if1 = c .before .before .before .before in
+    let at-well-formed = at-if1 .before in
+    let at-slice-known = at-well-formed .before .before in
+    let at-start = at-slice-known .before in
+    let a = at-start .args in
     let m = now (a .table) in
-    let w : wellFormed m ≡ true = sym (c .before .before .before .before .before .well-formed .ensures) ∙ not-false _ (c .before .before .before .before .if1 .left) in
-    let o : Octets m = λ k. omega (arith, c .before .before .before .before .before .before .before .slice-known .given k) in
+    let w : wellFormed m ≡ true = sym (at-well-formed .well-formed .ensures) ∙ not-false _ (at-if1 .if1 .left) in
+    let o : Octets m = λ k. omega (arith, at-slice-known .slice-known .given k) in
     let z = all-done m o w in
     let n = c .before .before .take-all-out .ensures .0 in
-    ((λ j. record { outcome = Done; place = n j }) ∙ z .replies, c .before .before .take-all-out .ensures .1 ∙ z .leaves)
+    ((λ j. record { outcome = Done; place = n j }) ∙ z .0, c .before .before .take-all-out .ensures .1 ∙ z .1)
 
 pub unregister-all-spec : {M : Type 1} → statement M
 unregister-all-spec =

@@ -1,21 +1,16 @@
 -- Each way out is one law of removal. Assumes nothing.
 use borrow.Author.Tests.{not-true, not-false}
-use mathlib.Core.Path.{_≡_, sym, ap, ap₂, _∙_}
+use mathlib.Core.Path.{_≡_, sym, _∙_}
 use mathlib.Core.Bool.{true, false}
-use Prim.Native.Nat.{ℕ, _+_, _*_, _≤_, _<_}
 use denote.Ref.{now}
-use Rattle.limits.specs.Outcome.{isDone}
-use Rattle.octets.specs.Number.{two, Octets}
-use Rattle.model.specs.Request.{ownFault, pointOf}
-use Rattle.table.specs.Memory.{wellFormed, parse}
+use Rattle.octets.specs.Number.{Octets}
+use Rattle.table.specs.Memory.{wellFormed}
 use Rattle.table.proofs.Parse.{passed}
 use Rattle.seats.specs.Seats.{seatAt}
-use Rattle.seats.specs.Find.{findAt}
-use Rattle.seats.specs.declared.Seat.the-variants.{Here, NotPlanned}
-use Rattle.seats.specs.declared.Spot.the-variants.{Held, Missing}
+use Rattle.seats.specs.declared.Seat.the-variants.{Here}
 use Rattle.seats.proofs.Laws.{seat-law}
 use Rattle.registry.specs.Registry.{unregistering}
-use Rattle.actor.proofs.Register.{Ends, ends-no-table}
+use Rattle.replies.proofs.Ways.{no-table}
 use Rattle.actor.proofs.Unregister.{out-absent, out-missing, out-done}
 use Rattle.remove.proofs.Entry.{take-out-law}
 use borrow.Author.Needs.{needs}
@@ -34,15 +29,17 @@ same-length c = search needs
 
 returns : tie.Need-returns
 returns c =
-    let a = c .before .before .before .before .before .args in
+    let at-start = c .before .before .before .before .before in
+    let a = at-start .args in
     let m = now (a .table) in
     let w : wellFormed m ≡ false = sym (c .before .before .well-formed .ensures) ∙ not-true _ (c .before .if1 .taken) in
-    let z = ends-no-table (unregistering (a .ca) (a .ioa)) m w in
-    (c .reply-of .ensures ∙ z .replies, z .leaves)
+    let z = no-table (unregistering (a .ca) (a .ioa)) m w in
+    (c .reply-of .ensures ∙ z .0, z .1)
 
 seat-at-requires : tie.Need-seat-at-requires
 seat-at-requires c κs =
-    let a = c .before .before .before .before .before .args in
+    let at-start = c .before .before .before .before .before in
+    let a = at-start .args in
     let m = now (a .table) in
     let w : wellFormed m ≡ true = sym (c .before .before .well-formed .ensures) ∙ not-false _ (c .before .if1 .left) in
     let top = passed m w .top in
@@ -64,20 +61,29 @@ same-length-2 c = search needs
 
 returns-2 : tie.Need-returns-2
 returns-2 c =
-    let a = c .before .before .before .before .before .before .before .before .before .args in
+    let at-seat-at = c .before .before .before in
+    let at-if1 = at-seat-at .before .before in
+    let at-well-formed = at-if1 .before in
+    let at-start = at-well-formed .before .before .before in
+    let a = at-start .args in
     let m = now (a .table) in
-    let w : wellFormed m ≡ true = sym (c .before .before .before .before .before .before .well-formed .ensures) ∙ not-false _ (c .before .before .before .before .before .if1 .left) in
-    let z = out-absent m w (a .ca) (a .ioa) (sym (c .before .before .before .seat-at .ensures) ∙ c .before .enum-told .given .1) in
-    (c .reply-of2 .ensures ∙ z .replies, z .leaves)
+    let w : wellFormed m ≡ true = sym (at-well-formed .well-formed .ensures) ∙ not-false _ (at-if1 .if1 .left) in
+    let z = out-absent m w (a .ca) (a .ioa) (sym (at-seat-at .seat-at .ensures) ∙ c .before .enum-told .given .1) in
+    (c .reply-of2 .ensures ∙ z .0, z .1)
 
 find-requires : tie.Need-find-requires
 find-requires c κs =
-    let a = c .before .before .before .before .before .before .before .before .before .before .args in
+    let at-seat-at = c .before .before .before .before in
+    let at-if1 = at-seat-at .before .before in
+    let at-well-formed = at-if1 .before in
+    let at-slice-known = at-well-formed .before .before in
+    let at-start = at-slice-known .before in
+    let a = at-start .args in
     let m = now (a .table) in
-    let w : wellFormed m ≡ true = sym (c .before .before .before .before .before .before .before .well-formed .ensures) ∙ not-false _ (c .before .before .before .before .before .before .if1 .left) in
-    let o : Octets m = λ k. omega (arith, c .before .before .before .before .before .before .before .before .before .slice-known .given k) in
+    let w : wellFormed m ≡ true = sym (at-well-formed .well-formed .ensures) ∙ not-false _ (at-if1 .if1 .left) in
+    let o : Octets m = λ k. omega (arith, at-slice-known .slice-known .given k) in
     let g = c .before .before .i .given in
-    let s : seatAt m (a .ca) ≡ Here (g .0 .0) (g .0 .1 .0) (g .0 .1 .1 .0) = sym (c .before .before .before .before .seat-at .ensures) ∙ g .1 in
+    let s : seatAt m (a .ca) ≡ Here (g .0 .0) (g .0 .1 .0) (g .0 .1 .1 .0) = sym (at-seat-at .seat-at .ensures) ∙ g .1 in
     let z = seat-law m (a .ca) (g .0 .0) (g .0 .1 .0) (g .0 .1 .1 .0) o w s in
     let places = z .places in
     let q = passed m w in
@@ -99,24 +105,38 @@ same-length-3 c = search needs
 
 returns-3 : tie.Need-returns-3
 returns-3 c =
-    let a = c .before .before .before .before .before .before .before .before .before .before .before .before .before .before .args in
+    let at-find = c .before .before .before in
+    let at-i = at-find .before .before .before in
+    let at-seat-at = at-i .before .before in
+    let at-if1 = at-seat-at .before .before in
+    let at-well-formed = at-if1 .before in
+    let at-slice-known = at-well-formed .before .before in
+    let at-start = at-slice-known .before in
+    let a = at-start .args in
     let m = now (a .table) in
-    let w : wellFormed m ≡ true = sym (c .before .before .before .before .before .before .before .before .before .before .before .well-formed .ensures) ∙ not-false _ (c .before .before .before .before .before .before .before .before .before .before .if1 .left) in
-    let o : Octets m = λ k. omega (arith, c .before .before .before .before .before .before .before .before .before .before .before .before .before .slice-known .given k) in
-    let g = c .before .before .before .before .before .before .i .given in
-    let s : seatAt m (a .ca) ≡ Here (g .0 .0) (g .0 .1 .0) (g .0 .1 .1 .0) = sym (c .before .before .before .before .before .before .before .before .seat-at .ensures) ∙ g .1 in
-    let z = out-missing m w (a .ca) (a .ioa) o (g .0 .0) (g .0 .1 .0) (g .0 .1 .1 .0) s _ (sym (c .before .before .before .find .ensures) ∙ c .before .enum-told2 .given .1) in
-    (c .reply-of3 .ensures ∙ z .replies, z .leaves)
+    let w : wellFormed m ≡ true = sym (at-well-formed .well-formed .ensures) ∙ not-false _ (at-if1 .if1 .left) in
+    let o : Octets m = λ k. omega (arith, at-slice-known .slice-known .given k) in
+    let g = at-i .i .given in
+    let s : seatAt m (a .ca) ≡ Here (g .0 .0) (g .0 .1 .0) (g .0 .1 .1 .0) = sym (at-seat-at .seat-at .ensures) ∙ g .1 in
+    let z = out-missing m w (a .ca) (a .ioa) o (g .0 .0) (g .0 .1 .0) (g .0 .1 .1 .0) s _ (sym (at-find .find .ensures) ∙ c .before .enum-told2 .given .1) in
+    (c .reply-of3 .ensures ∙ z .0, z .1)
 
 take-out-requires : tie.Need-take-out-requires
 take-out-requires c κs =
-    let a = c .before .before .before .before .before .before .before .before .before .before .before .before .before .before .before .args in
+    let at-find = c .before .before .before .before in
+    let at-i = at-find .before .before .before in
+    let at-seat-at = at-i .before .before in
+    let at-if1 = at-seat-at .before .before in
+    let at-well-formed = at-if1 .before in
+    let at-slice-known = at-well-formed .before .before in
+    let at-start = at-slice-known .before in
+    let a = at-start .args in
     let m = now (a .table) in
-    let w : wellFormed m ≡ true = sym (c .before .before .before .before .before .before .before .before .before .before .before .before .well-formed .ensures) ∙ not-false _ (c .before .before .before .before .before .before .before .before .before .before .before .if1 .left) in
-    let o : Octets m = λ k. omega (arith, c .before .before .before .before .before .before .before .before .before .before .before .before .before .before .slice-known .given k) in
-    let g = c .before .before .before .before .before .before .before .i .given in
-    let s : seatAt m (a .ca) ≡ Here (g .0 .0) (g .0 .1 .0) (g .0 .1 .1 .0) = sym (c .before .before .before .before .before .before .before .before .before .seat-at .ensures) ∙ g .1 in
-    let b = take-out-law m (a .ca) (a .ioa) (g .0 .0) (g .0 .1 .0) (g .0 .1 .1 .0) _ o w s (sym (c .before .before .before .before .find .ensures) ∙ c .before .before .at .given .1) .bounds in
+    let w : wellFormed m ≡ true = sym (at-well-formed .well-formed .ensures) ∙ not-false _ (at-if1 .if1 .left) in
+    let o : Octets m = λ k. omega (arith, at-slice-known .slice-known .given k) in
+    let g = at-i .i .given in
+    let s : seatAt m (a .ca) ≡ Here (g .0 .0) (g .0 .1 .0) (g .0 .1 .1 .0) = sym (at-seat-at .seat-at .ensures) ∙ g .1 in
+    let b = take-out-law m (a .ca) (a .ioa) (g .0 .0) (g .0 .1 .0) (g .0 .1 .1 .0) _ o w s (sym (at-find .find .ensures) ∙ c .before .before .at .given .1) .bounds in
     b
 
 reply-of-requires-4 : tie.Need-reply-of-requires-4
@@ -127,14 +147,23 @@ same-length-4 c = search needs
 
 returns-4 : tie.Need-returns-4
 returns-4 c =
-    let a = c .before .before .before .before .before .before .before .before .before .before .before .before .before .before .before .before .before .before .before .args in
+    let at-take-out = c .before .before .before in
+    let at-at = at-take-out .before .before .before in
+    let at-find = at-at .before .before in
+    let at-i = at-find .before .before .before in
+    let at-seat-at = at-i .before .before in
+    let at-if1 = at-seat-at .before .before in
+    let at-well-formed = at-if1 .before in
+    let at-slice-known = at-well-formed .before .before in
+    let at-start = at-slice-known .before in
+    let a = at-start .args in
     let m = now (a .table) in
-    let w : wellFormed m ≡ true = sym (c .before .before .before .before .before .before .before .before .before .before .before .before .before .before .before .before .well-formed .ensures) ∙ not-false _ (c .before .before .before .before .before .before .before .before .before .before .before .before .before .before .before .if1 .left) in
-    let o : Octets m = λ k. omega (arith, c .before .before .before .before .before .before .before .before .before .before .before .before .before .before .before .before .before .before .slice-known .given k) in
-    let g = c .before .before .before .before .before .before .before .before .before .before .before .i .given in
-    let s : seatAt m (a .ca) ≡ Here (g .0 .0) (g .0 .1 .0) (g .0 .1 .1 .0) = sym (c .before .before .before .before .before .before .before .before .before .before .before .before .before .seat-at .ensures) ∙ g .1 in
-    let z = out-done m w (a .ca) (a .ioa) o (g .0 .0) (g .0 .1 .0) (g .0 .1 .1 .0) s _ (sym (c .before .before .before .before .before .before .before .before .find .ensures) ∙ c .before .before .before .before .before .before .at .given .1) in
-    (c .reply-of4 .ensures ∙ z .replies, c .before .before .before .take-out .ensures ∙ z .leaves)
+    let w : wellFormed m ≡ true = sym (at-well-formed .well-formed .ensures) ∙ not-false _ (at-if1 .if1 .left) in
+    let o : Octets m = λ k. omega (arith, at-slice-known .slice-known .given k) in
+    let g = at-i .i .given in
+    let s : seatAt m (a .ca) ≡ Here (g .0 .0) (g .0 .1 .0) (g .0 .1 .1 .0) = sym (at-seat-at .seat-at .ensures) ∙ g .1 in
+    let z = out-done m w (a .ca) (a .ioa) o (g .0 .0) (g .0 .1 .0) (g .0 .1 .1 .0) s _ (sym (at-find .find .ensures) ∙ at-at .at .given .1) in
+    (c .reply-of4 .ensures ∙ z .0, at-take-out .take-out .ensures ∙ z .1)
 
 pub unregister-point-spec : {M : Type 1} → statement M
 unregister-point-spec =

@@ -50,19 +50,25 @@ wide16-requires c κs = search needs
 
 add-put-two : tie.Need-add-put-two Inv-loop μ-loop
 add-put-two c =
-    let a = c .before .before .before .before .before .before .before .before .args in
-    let l = c .before .before .before .before .before .before .loop in
+    let at-two-at = c .before .before .before in
+    let at-loop = at-two-at .before .before .before in
+    let at-start = at-loop .before .before in
+    let a = at-start .args in
+    let l = at-loop .loop in
     let f = raise-fits (l .m) (now (a .taken)) (a .at) (a .n) (l .i) (omega arith) (omega arith) (l .inv .1) in
-    let x = c .before .before .before .two-at .ensures .0 in
+    let x = at-two-at .two-at .ensures .0 in
     let y : c .wide16 .result ≡ getD (now (a .taken)) (l .i) 0 = c .wide16 .ensures .0 in
     omega arith
 
 put-two-requires : tie.Need-put-two-requires Inv-loop μ-loop
 put-two-requires c κs =
-    let a = c .before .before .before .before .before .before .before .before .args in
-    let l = c .before .before .before .before .before .before .loop in
+    let at-two-at = c .before .before .before in
+    let at-loop = at-two-at .before .before .before in
+    let at-start = at-loop .before .before in
+    let a = at-start .args in
+    let l = at-loop .loop in
     let f = raise-fits (l .m) (now (a .taken)) (a .at) (a .n) (l .i) (omega arith) (omega arith) (l .inv .1) in
-    let x = c .before .before .before .two-at .ensures .0 in
+    let x = at-two-at .two-at .ensures .0 in
     let y : c .wide16 .result ≡ getD (now (a .taken)) (l .i) 0 = c .wide16 .ensures .0 in
     (omega arith, omega arith)
 
@@ -74,10 +80,14 @@ loop-less c = search needs
 
 loop-again : tie.Need-loop-again Inv-loop μ-loop
 loop-again c =
-    let a = c .before .before .before .before .before .before .before .before .before .before .before .args in
-    let l = c .before .before .before .before .before .before .before .before .before .loop in
-    let x = c .before .before .before .before .before .before .two-at .ensures .0 in
-    let y : c .before .before .before .wide16 .result ≡ getD (now (a .taken)) (l .i) 0 = c .before .before .before .wide16 .ensures .0 in
+    let at-wide16 = c .before .before .before in
+    let at-two-at = at-wide16 .before .before .before in
+    let at-loop = at-two-at .before .before .before in
+    let at-start = at-loop .before .before in
+    let a = at-start .args in
+    let l = at-loop .loop in
+    let x = at-two-at .two-at .ensures .0 in
+    let y : at-wide16 .wide16 .result ≡ getD (now (a .taken)) (l .i) 0 = at-wide16 .wide16 .ensures .0 in
     let p = c .before .before .put-two in
     let t = now (a .taken) in
     let to = a .at + 8 * l .i + 6 in

@@ -3,66 +3,60 @@ use borrow.Author.Needs.{needs}
 use native.Mathlib.Omega.{arith}
 use mathlib.Core.Path.{_≡_, sym, _∙_, subst}
 use mathlib.Core.List.{List}
-use Prim.Native.Nat.{ℕ, _+_, _*_, _/_}
+use Prim.Native.Nat.{ℕ, _+_}
 use denote.Ref.{now}
-use lib.ListN.{length, take}
+use lib.ListN.{take}
 use Rattle.octets.specs.Over.{over}
-use Rattle.octets.specs.Number.{two, pair}
+use Rattle.octets.specs.Number.{pair}
+use Rattle.layout.specs.Layout.{pointsOffset, capacityIn, stationsIn, pointsIn, afterPlaces, stationsFrom}
+use Rattle.records.specs.Records.{recordsIn}
 use Rattle.sorting.specs.Sorted.{All, Ascending, sorted}
 use Rattle.sorting.proofs.Sorted.{sorted-ascending, sorted-all}
-use Rattle.merging.specs.Merge.{Rises, octetsOf, joined, placedFrom, placedOf, numbersFrom, Fits}
+use Rattle.merging.specs.Merge.{Rises, placesIn, numbersFrom, Fits, merged}
 use Rattle.batch.specs.Raise.{raised, Raisable}
-use Rattle.batch.proofs.Storing.{merged, storable}
+use Rattle.batch.proofs.Storing.{allMerged, storable}
 use Rattle.batch.proofs.store_all.Statement.{statement}
 use Rattle.batch.proofs.store_all.Tie as tie
 
-two-at-requires : tie.Need-two-at-requires
-two-at-requires c κs =
-    let a = c .before .before .before .before .args in
-    let p = c .before .before .before .before .pre in
-    let m = now (a .m) in
-    let r = now (a .records) in
-    let z = storable m r (now (a .taken)) (λ j. omega (arith, c .before .before .before .slice-known .given j)) (p .0) (p .1) (p .2) (p .3) in
-    let long = z .length-is in
+capacity-of-requires : tie.Need-capacity-of-requires
+capacity-of-requires c κs =
+    let at-slice-known = c .before .before .before in
+    let at-start = at-slice-known .before in
+    let long = storable (now (at-start .args .m)) _ _ (λ j. omega (arith, at-slice-known .slice-known .given j)) (at-start .pre .0) (at-start .pre .1) .length-is in
     omega arith
 
-two-at-requires-2 : tie.Need-two-at-requires-2
-two-at-requires-2 c κs =
-    let a = c .before .before .before .before .before .before .args in
-    let p = c .before .before .before .before .before .before .pre in
-    let m = now (a .m) in
-    let r = now (a .records) in
-    let z = storable m r (now (a .taken)) (λ j. omega (arith, c .before .before .before .before .before .slice-known .given j)) (p .0) (p .1) (p .2) (p .3) in
-    let long = z .length-is in
+stations-of-requires : tie.Need-stations-of-requires
+stations-of-requires c κs =
+    let at-slice-known = c .before .before .before .before .before in
+    let at-start = at-slice-known .before in
+    let long = storable (now (at-start .args .m)) _ _ (λ j. omega (arith, at-slice-known .slice-known .given j)) (at-start .pre .0) (at-start .pre .1) .length-is in
     omega arith
 
-two-at-requires-3 : tie.Need-two-at-requires-3
-two-at-requires-3 c κs =
-    let a = c .before .before .before .before .before .before .before .before .args in
-    let p = c .before .before .before .before .before .before .before .before .pre in
-    let m = now (a .m) in
-    let r = now (a .records) in
-    let z = storable m r (now (a .taken)) (λ j. omega (arith, c .before .before .before .before .before .before .before .slice-known .given j)) (p .0) (p .1) (p .2) (p .3) in
-    let long = z .length-is in
+points-of-requires : tie.Need-points-of-requires
+points-of-requires c κs =
+    let at-slice-known = c .before .before .before .before .before .before .before in
+    let at-start = at-slice-known .before in
+    let long = storable (now (at-start .args .m)) _ _ (λ j. omega (arith, at-slice-known .slice-known .given j)) (at-start .pre .0) (at-start .pre .1) .length-is in
     omega arith
 
 merge-requires : tie.Need-merge-requires
 merge-requires c κs =
-    let a = c .before .before .before .before .before .before .before .before .before .before .args in
-    let p = c .before .before .before .before .before .before .before .before .before .before .pre in
+    let at-slice-known = c .before .before .before .before .before .before .before .before .before in
+    let at-start = at-slice-known .before in
+    let a = at-start .args in
+    let p = at-start .pre in
     let m = now (a .m) in
     let r = now (a .records) in
-    let z = storable m r (now (a .taken)) (λ j. omega (arith, c .before .before .before .before .before .before .before .before .before .slice-known .given j)) (p .0) (p .1) (p .2) (p .3) in
+    let z = storable m r (now (a .taken)) (λ j. omega (arith, at-slice-known .slice-known .given j)) (p .0) (p .1) in
     let few = z .capacity in
     let free = z .free in
-    let s : take (length r / 24) (now (a .numbers)) ≡ sorted (numbersFrom r 0 (length r / 24)) = p .5 (omega arith) in
-    let e : c .before .two-at3 .result ≡ two m 8 = c .before .two-at3 .ensures .0 in
+    let s : take (recordsIn r) (now (a .numbers)) ≡ sorted (numbersFrom r 0 (recordsIn r)) = p .3 (omega arith) in
+    let numbers = numbersFrom r 0 (recordsIn r) in
+    let e : c .before .points-of .result ≡ pointsIn m = c .before .points-of .ensures .0 in
     let long = z .length-is in (
       omega arith,
       omega arith,
-      subst (λ (x : ℕ). Rises 0 (placedFrom m 64 x)) (sym e) (z .rises),
-      subst Ascending (sym s) (sorted-ascending (numbersFrom r 0 (length r / 24))),
-      subst (All (Fits r)) (sym s) (sorted-all (Fits r) (numbersFrom r 0 (length r / 24)) (z .records)),
+      (subst (λ (x : ℕ). Rises 0 (placesIn m x)) (sym e) (z .rises), subst Ascending (sym s) (sorted-ascending numbers), subst (All (Fits r)) (sym s) (sorted-all (Fits r) numbers (z .records))),
     )
 
 mul-raise-held : tie.Need-mul-raise-held
@@ -73,77 +67,94 @@ add-raise-held c = search needs
 
 raise-held-requires : tie.Need-raise-held-requires
 raise-held-requires c κs =
-    let a = c .before .before .before .before .before .before .before .before .before .before .before .before .before .before .args in
-    let p = c .before .before .before .before .before .before .before .before .before .before .before .before .before .before .pre in
+    let at-merge = c .before .before .before in
+    let at-points-of = at-merge .before .before in
+    let at-stations-of = at-points-of .before .before in
+    let at-capacity-of = at-stations-of .before .before in
+    let at-slice-known = at-capacity-of .before .before .before .before in
+    let at-start = at-slice-known .before in
+    let a = at-start .args in
+    let p = at-start .pre in
     let m = now (a .m) in
     let r = now (a .records) in
-    let z = storable m r (now (a .taken)) (λ j. omega (arith, c .before .before .before .before .before .before .before .before .before .before .before .before .before .slice-known .given j)) (p .0) (p .1) (p .2) (p .3) in
+    let z = storable m r (now (a .taken)) (λ j. omega (arith, at-slice-known .slice-known .given j)) (p .0) (p .1) in
     let few = z .capacity in
     let free = z .free in
-    let s : take (length r / 24) (now (a .numbers)) ≡ sorted (numbersFrom r 0 (length r / 24)) = p .5 (omega arith) in
-    let e4 : c .before .before .before .before .before .before .before .before .before .two-at .result ≡ two m 4 = c .before .before .before .before .before .before .before .before .before .two-at .ensures .0 in
-    let e6 : c .before .before .before .before .before .before .before .two-at2 .result ≡ two m 6 = c .before .before .before .before .before .before .before .two-at2 .ensures .0 in
-    let e8 : c .before .before .before .before .before .two-at3 .result ≡ two m 8 = c .before .before .before .before .before .two-at3 .ensures .0 in
-    let x = c .before .before .before .merge in
-    let new : x .last .0 ≡ merged m r = x .ensures ∙ (λ j. over m 64 (octetsOf (joined (placedOf r) (placedFrom m 64 (e8 j)) (s j)))) in
+    let s : take (recordsIn r) (now (a .numbers)) ≡ sorted (numbersFrom r 0 (recordsIn r)) = p .3 (omega arith) in
+    let e4 : at-capacity-of .capacity-of .result ≡ capacityIn m = at-capacity-of .capacity-of .ensures .0 in
+    let e6 : at-stations-of .stations-of .result ≡ stationsIn m = at-stations-of .stations-of .ensures .0 in
+    let e8 : at-points-of .points-of .result ≡ pointsIn m = at-points-of .points-of .ensures .0 in
+    let x = at-merge .merge in
+    let new : x .last .0 ≡ allMerged m r = x .ensures ∙ (λ j. merged m r (s j) (e8 j)) in
     let most = z .stations in
     let long = z .length-is in
-    let raisable = subst (λ (y : ℕ). Raisable (merged m r) (now (a .taken)) 0 (64 + 48 * two m 4) y) (sym e6) (z .raisable) in
-    (omega arith, omega (arith, x .kept), subst (λ (y : List ℕ). Raisable y (now (a .taken)) 0 (64 + 48 * c .before .before .before .before .before .before .before .before .before .two-at .result) (c .before .before .before .before .before .before .before .two-at2 .result)) (sym new) (subst (λ (y : ℕ). Raisable (merged m r) (now (a .taken)) 0 (64 + 48 * y) (c .before .before .before .before .before .before .before .two-at2 .result)) (sym e4) raisable))
+    let raisable = subst (λ (y : ℕ). Raisable (allMerged m r) (now (a .taken)) 0 (stationsFrom m) y) (sym e6) (z .raisable) in
+    (omega arith, omega (arith, x .kept), subst (λ (y : List ℕ). Raisable y (now (a .taken)) 0 (afterPlaces (at-capacity-of .capacity-of .result)) (at-stations-of .stations-of .result)) (sym new) (subst (λ (y : ℕ). Raisable (allMerged m r) (now (a .taken)) 0 (afterPlaces y) (at-stations-of .stations-of .result)) (sym e4) raisable))
 
 add-put-two : tie.Need-add-put-two
 add-put-two c =
-    let a = c .before .before .before .before .before .before .before .before .before .before .before .before .before .before .before .before .before .before .args in
-    let p = c .before .before .before .before .before .before .before .before .before .before .before .before .before .before .before .before .before .before .pre in
-    let m = now (a .m) in
-    let r = now (a .records) in
-    let z = storable m r (now (a .taken)) (λ j. omega (arith, c .before .before .before .before .before .before .before .before .before .before .before .before .before .before .before .before .before .slice-known .given j)) (p .0) (p .1) (p .2) (p .3) in
-    let e8 : c .before .before .before .before .before .before .before .before .before .two-at3 .result ≡ two m 8 = c .before .before .before .before .before .before .before .before .before .two-at3 .ensures .0 in
+    let at-points-of = c .before .before .before .before .before .before .before .before .before in
+    let at-slice-known = at-points-of .before .before .before .before .before .before .before .before in
+    let at-start = at-slice-known .before in
+    let a = at-start .args in
+    let p = at-start .pre in
+    let z = storable (now (a .m)) _ _ (λ j. omega (arith, at-slice-known .slice-known .given j)) (p .0) (p .1) in
+    let e8 : at-points-of .points-of .result ≡ pointsIn (now (a .m)) = at-points-of .points-of .ensures .0 in
     let few = z .capacity in
     let free = z .free in
     omega arith
 
 put-two-requires : tie.Need-put-two-requires
 put-two-requires c κs =
-    let a = c .before .before .before .before .before .before .before .before .before .before .before .before .before .before .before .before .before .before .args in
-    let p = c .before .before .before .before .before .before .before .before .before .before .before .before .before .before .before .before .before .before .pre in
-    let m = now (a .m) in
-    let r = now (a .records) in
-    let z = storable m r (now (a .taken)) (λ j. omega (arith, c .before .before .before .before .before .before .before .before .before .before .before .before .before .before .before .before .before .slice-known .given j)) (p .0) (p .1) (p .2) (p .3) in
-    let e8 : c .before .before .before .before .before .before .before .before .before .two-at3 .result ≡ two m 8 = c .before .before .before .before .before .before .before .before .before .two-at3 .ensures .0 in
+    let at-raise-held = c .before .before .before in
+    let at-merge = at-raise-held .before .before .before .before in
+    let at-points-of = at-merge .before .before in
+    let at-slice-known = at-points-of .before .before .before .before .before .before .before .before in
+    let at-start = at-slice-known .before in
+    let a = at-start .args in
+    let p = at-start .pre in
+    let z = storable (now (a .m)) _ _ (λ j. omega (arith, at-slice-known .slice-known .given j)) (p .0) (p .1) in
+    let e8 : at-points-of .points-of .result ≡ pointsIn (now (a .m)) = at-points-of .points-of .ensures .0 in
     let few = z .capacity in
     let free = z .free in
     let long = z .length-is in
-    (omega (arith, c .before .before .before .raise-held .kept, c .before .before .before .before .before .before .before .merge .kept), omega arith)
+    (omega (arith, at-raise-held .raise-held .kept, at-merge .merge .kept), omega arith)
 
 same-length : tie.Need-same-length
 same-length c = search needs
 
 returns : tie.Need-returns
 returns c =
-    let a = c .before .before .before .before .before .before .before .before .before .before .before .before .before .before .before .before .before .before .before .before .before .args in
-    let p = c .before .before .before .before .before .before .before .before .before .before .before .before .before .before .before .before .before .before .before .before .before .pre in
+    let at-raise-held = c .before .before .before .before .before .before in
+    let at-merge = at-raise-held .before .before .before .before in
+    let at-points-of = at-merge .before .before in
+    let at-stations-of = at-points-of .before .before in
+    let at-capacity-of = at-stations-of .before .before in
+    let at-slice-known = at-capacity-of .before .before .before .before in
+    let at-start = at-slice-known .before in
+    let a = at-start .args in
+    let p = at-start .pre in
     let m = now (a .m) in
     let r = now (a .records) in
-    let z = storable m r (now (a .taken)) (λ j. omega (arith, c .before .before .before .before .before .before .before .before .before .before .before .before .before .before .before .before .before .before .before .before .slice-known .given j)) (p .0) (p .1) (p .2) (p .3) in
+    let z = storable m r (now (a .taken)) (λ j. omega (arith, at-slice-known .slice-known .given j)) (p .0) (p .1) in
     let few = z .capacity in
     let free = z .free in
-    let s : take (length r / 24) (now (a .numbers)) ≡ sorted (numbersFrom r 0 (length r / 24)) = p .5 (omega arith) in
-    let e4 : c .before .before .before .before .before .before .before .before .before .before .before .before .before .before .before .before .two-at .result ≡ two m 4 = c .before .before .before .before .before .before .before .before .before .before .before .before .before .before .before .before .two-at .ensures .0 in
-    let e6 : c .before .before .before .before .before .before .before .before .before .before .before .before .before .before .two-at2 .result ≡ two m 6 = c .before .before .before .before .before .before .before .before .before .before .before .before .before .before .two-at2 .ensures .0 in
-    let e8 : c .before .before .before .before .before .before .before .before .before .before .before .before .two-at3 .result ≡ two m 8 = c .before .before .before .before .before .before .before .before .before .before .before .before .two-at3 .ensures .0 in
-    let x = c .before .before .before .before .before .before .before .before .before .before .merge in
-    let new : x .last .0 ≡ merged m r = x .ensures ∙ (λ j. over m 64 (octetsOf (joined (placedOf r) (placedFrom m 64 (e8 j)) (s j)))) in
-    let up = c .before .before .before .before .before .before .raise-held .ensures ∙ (λ j. raised (new j) (now (a .taken)) 0 (64 + 48 * e4 j) (e6 j)) in
-    c .before .before .put-two .ensures ∙ (λ j. over (up j) 8 (pair (e8 j + length r / 24))) ∙ z .memory
+    let s : take (recordsIn r) (now (a .numbers)) ≡ sorted (numbersFrom r 0 (recordsIn r)) = p .3 (omega arith) in
+    let e4 : at-capacity-of .capacity-of .result ≡ capacityIn m = at-capacity-of .capacity-of .ensures .0 in
+    let e6 : at-stations-of .stations-of .result ≡ stationsIn m = at-stations-of .stations-of .ensures .0 in
+    let e8 : at-points-of .points-of .result ≡ pointsIn m = at-points-of .points-of .ensures .0 in
+    let x = at-merge .merge in
+    let new : x .last .0 ≡ allMerged m r = x .ensures ∙ (λ j. merged m r (s j) (e8 j)) in
+    let up = at-raise-held .raise-held .ensures ∙ (λ j. raised (new j) (now (a .taken)) 0 (afterPlaces (e4 j)) (e6 j)) in
+    c .before .before .put-two .ensures ∙ (λ j. over (up j) pointsOffset (pair (e8 j + recordsIn r))) ∙ z .memory
 
 pub store-all-spec : {M : Type 1} → statement M
 store-all-spec =
     tie.close
     (tie.spec
-    two-at-requires
-    two-at-requires-2
-    two-at-requires-3
+    capacity-of-requires
+    stations-of-requires
+    points-of-requires
     merge-requires
     mul-raise-held
     add-raise-held

@@ -35,11 +35,17 @@ without-requires-3 c κs = search needs
 returns : tie.Need-returns
 unfolding standingOf
 returns c =
-    let a = c .before .before .before .before .before .before .before .before .args in
-    let answer = c .before .before .outcome-of .ensures ∙ ap admissionOutcome (c .before .before .before .before .before .before .before .admission .ensures) in
-    let more = c .before .before .before .before .before .before .take-in .ensures in
-    let lost = c .before .before .before .without .ensures
-    ∙ ap₂ (λ (x y : _). x - y) (c .before .before .before .before .before .unmet .ensures) (c .before .before .before .before .unmet2 .ensures ∙ ap unmetOf more) in
+    let at-without = c .before .before .before in
+    let at-unmet2 = at-without .before in
+    let at-unmet = at-unmet2 .before in
+    let at-take-in = at-unmet .before in
+    let at-admission = at-take-in .before in
+    let at-start = at-admission .before in
+    let a = at-start .args in
+    let answer = c .before .before .outcome-of .ensures ∙ ap admissionOutcome (at-admission .admission .ensures) in
+    let more = at-take-in .take-in .ensures in
+    let lost = at-without .without .ensures
+    ∙ ap₂ (λ (x y : _). x - y) (at-unmet .unmet .ensures) (at-unmet2 .unmet2 .ensures ∙ ap unmetOf more) in
     let free = c .before .without2 .ensures in
     let unmet = c .without3 .ensures ∙ ap (λ (x : _). a .unmet - x) lost in
     (λ j. record { outcome = answer j; free = free j; unmet = unmet j })

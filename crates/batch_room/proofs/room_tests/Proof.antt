@@ -2,9 +2,9 @@
 use borrow.Author.Needs.{needs}
 use mathlib.Core.Path.{_≡_, ap, _∙_}
 use mathlib.Core.List.{List}
-use Prim.Native.Nat.{ℕ, _+_, _*_, _-_}
+use Prim.Native.Nat.{ℕ, _-_}
 use denote.Ref.{now}
-use Rattle.octets.specs.Number.{two}
+use Rattle.layout.specs.Layout.{capacityIn, stationsIn, afterPlaces}
 use Rattle.table.specs.Memory.{sumAt, heldAt, unmetAt}
 use Rattle.records.specs.Records.{requestsIn}
 use Rattle.batch_room.specs.Room.{roomRun, takenRun}
@@ -12,11 +12,11 @@ use Rattle.batch_room.proofs.Laws.{room-fresh, took-in}
 use Rattle.batch_room.proofs.room_tests.Statement.{statement}
 use Rattle.batch_room.proofs.room_tests.Tie as tie
 
-two-at-requires : tie.Need-two-at-requires
-two-at-requires c κs = search needs
+capacity-of-requires : tie.Need-capacity-of-requires
+capacity-of-requires c κs = search needs
 
-two-at-requires-2 : tie.Need-two-at-requires-2
-two-at-requires-2 c κs = search needs
+stations-of-requires : tie.Need-stations-of-requires
+stations-of-requires c κs = search needs
 
 mul-add-up : tie.Need-mul-add-up
 mul-add-up c = search needs
@@ -35,19 +35,23 @@ turns-requires c κs = search needs
 
 returns : tie.Need-returns
 returns c =
-    let a = c .before .before .before .before .before .before .before .before .args in
+    let at-add-up = c .before .before .before in
+    let at-stations-of = at-add-up .before in
+    let at-capacity-of = at-stations-of .before in
+    let at-start = at-capacity-of .before .before .before in
+    let a = at-start .args in
     let m = now (a .m) in
-    let k : c .before .before .before .before .before .two-at .result ≡ two m 4 = c .before .before .before .before .before .two-at .ensures .0 in
-    let n : c .before .before .before .before .two-at2 .result ≡ two m 6 = c .before .before .before .before .two-at2 .ensures .0 in
-    let s = c .before .before .before .add-up .ensures in
-    let held = s .1 ∙ (λ j. sumAt heldAt m (64 + 48 * k j) (n j)) in
-    let unmet = s .2 ∙ (λ j. sumAt unmetAt m (64 + 48 * k j) (n j)) in
+    let k : at-capacity-of .capacity-of .result ≡ capacityIn m = at-capacity-of .capacity-of .ensures .0 in
+    let n : at-stations-of .stations-of .result ≡ stationsIn m = at-stations-of .stations-of .ensures .0 in
+    let s = at-add-up .add-up .ensures in
+    let held = s .1 ∙ (λ j. sumAt heldAt m (afterPlaces (k j)) (n j)) in
+    let unmet = s .2 ∙ (λ j. sumAt unmetAt m (afterPlaces (k j)) (n j)) in
     let free = c .before .without .ensures ∙ (λ j. k j - held j) in
     let qs = requestsIn (now (a .records)) in
-    let p = c .before .before .before .before .before .before .before .before .pre in
+    let p = at-start .pre in
     let t = c .turns .ensures in
     let f = c .before .without .result in
-    let u = c .before .before .before .add-up .result .unmet in (
+    let u = at-add-up .add-up .result .unmet in (
       t .0 ∙ ap (λ (x : List ℕ). roomRun m x f u 0 qs) (p .2) ∙ room-fresh m f u qs (p .0) free unmet,
       took-in m f u qs _ (p .0) free unmet (t .1 ∙ ap (λ (x : List ℕ). takenRun m x f u qs) (p .2)),
     )
@@ -56,8 +60,8 @@ pub room-tests-spec : {M : Type 1} → statement M
 room-tests-spec =
     tie.close
     (tie.spec
-    two-at-requires
-    two-at-requires-2
+    capacity-of-requires
+    stations-of-requires
     mul-add-up
     add-add-up
     add-up-requires

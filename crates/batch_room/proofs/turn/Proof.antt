@@ -4,12 +4,12 @@ use native.Mathlib.Omega.{arith}
 use borrow.Author.Tests.{not-true, not-false}
 use mathlib.Core.Path.{_≡_, sym, ap, _∙_, subst}
 use mathlib.Core.Bool.{true}
-use Prim.Native.Nat.{ℕ, _+_, _*_, _≤_, _<_}
+use Prim.Native.Nat.{ℕ, _≤_, _<_}
 use denote.Ref.{now}
 use lib.ListN.{length, getD}
 use Rattle.limits.specs.Outcome.{isDone}
 use Rattle.limits.specs.declared.share.Share.{Share}
-use Rattle.octets.specs.Number.{two}
+use Rattle.layout.specs.Layout.{mostStations, stationsIn, sizeIn}
 use Rattle.seats.specs.Seats.{seatAt}
 use Rattle.seats.specs.declared.Seat.the-variants.{Here}
 use Rattle.batch_room.specs.declared.Standing.{Standing}
@@ -29,69 +29,43 @@ enum-told c = search needs
 
 returns : tie.Need-returns
 returns c =
-    let a = c .before .before .before .before .args in
+    let at-start = c .before .before .before .before in
+    let a = at-start .args in
     turn-unplanned (now (a .m)) (now (a .taken)) (a .ca) (a .free) (a .unmet) (sym (c .before .before .seat-at .ensures) ∙ c .enum-told .given .1)
 
-two-at-requires : tie.Need-two-at-requires
-two-at-requires c κs = search needs
+station-at-requires : tie.Need-station-at-requires
+station-at-requires c κs =
+    let at-seat-at = c .before .before .before in
+    let at-start = at-seat-at .before .before in
+    let i = seat-inside _ _ _ _ _ (sym (at-seat-at .seat-at .ensures) ∙ c .before .seat .given .1) in
+    let stations = at-start .pre .0 in
+    (omega arith, omega arith)
 
 mul-earlier : tie.Need-mul-earlier
 mul-earlier c =
-    let a = c .before .before .before .before .before .before .args in
-    let m = now (a .m) in
-    let g = c .before .before .seat .given in
-    let e : seatAt m (a .ca) ≡ Here (g .0 .0) (g .0 .1 .0) (g .0 .1 .1 .0) = sym (c .before .before .before .before .seat-at .ensures) ∙ g .1 in
-    let i = seat-inside m (a .ca) (g .0 .0) (g .0 .1 .0) (g .0 .1 .1 .0) e in
-    let stations : two m 6 ≤ 64 = c .before .before .before .before .before .before .pre .0 in
+    let at-seat-at = c .before .before .before .before in
+    let at-start = at-seat-at .before .before in
+    let i = seat-inside _ _ _ _ _ (sym (at-seat-at .seat-at .ensures) ∙ c .before .before .seat .given .1) in
+    let stations = at-start .pre .0 in
     omega arith
 
 element-copy-out-earlier : tie.Need-element-copy-out-earlier
 element-copy-out-earlier c =
-    let a = c .before .before .before .before .before .before .args in
-    let m = now (a .m) in
-    let g = c .before .before .seat .given in
-    let e : seatAt m (a .ca) ≡ Here (g .0 .0) (g .0 .1 .0) (g .0 .1 .1 .0) = sym (c .before .before .before .before .seat-at .ensures) ∙ g .1 in
-    let i = seat-inside m (a .ca) (g .0 .0) (g .0 .1 .0) (g .0 .1 .1 .0) e in
-    let stations : two m 6 ≤ 64 = c .before .before .before .before .before .before .pre .0 in
-    omega arith
-
-mul-share-with : tie.Need-mul-share-with
-mul-share-with c = search needs
-
-add-share-with : tie.Need-add-share-with
-add-share-with c = search needs
-
-mul-share-with-2 : tie.Need-mul-share-with-2
-mul-share-with-2 c =
-    let a = c .before .before .before .before .before .before .before .args in
-    let m = now (a .m) in
-    let g = c .before .before .before .seat .given in
-    let e : seatAt m (a .ca) ≡ Here (g .0 .0) (g .0 .1 .0) (g .0 .1 .1 .0) = sym (c .before .before .before .before .before .seat-at .ensures) ∙ g .1 in
-    let i = seat-inside m (a .ca) (g .0 .0) (g .0 .1 .0) (g .0 .1 .1 .0) e in
-    let stations : two m 6 ≤ 64 = c .before .before .before .before .before .before .before .pre .0 in
-    omega arith
-
-add-share-with-2 : tie.Need-add-share-with-2
-add-share-with-2 c =
-    let a = c .before .before .before .before .before .before .before .args in
-    let m = now (a .m) in
-    let g = c .before .before .before .seat .given in
-    let e : seatAt m (a .ca) ≡ Here (g .0 .0) (g .0 .1 .0) (g .0 .1 .1 .0) = sym (c .before .before .before .before .before .seat-at .ensures) ∙ g .1 in
-    let i = seat-inside m (a .ca) (g .0 .0) (g .0 .1 .0) (g .0 .1 .1 .0) e in
-    let stations : two m 6 ≤ 64 = c .before .before .before .before .before .before .before .pre .0 in
-    let k = c .before .two-at .ensures .1 in
+    let at-seat-at = c .before .before .before .before in
+    let at-start = at-seat-at .before .before in
+    let i = seat-inside _ _ _ _ _ (sym (at-seat-at .seat-at .ensures) ∙ c .before .before .seat .given .1) in
+    let stations = at-start .pre .0 in
     omega arith
 
 share-with-requires : tie.Need-share-with-requires
 share-with-requires c κs =
-    let a = c .before .before .before .before .before .before .before .args in
-    let m = now (a .m) in
-    let g = c .before .before .before .seat .given in
-    let e : seatAt m (a .ca) ≡ Here (g .0 .0) (g .0 .1 .0) (g .0 .1 .1 .0) = sym (c .before .before .before .before .before .seat-at .ensures) ∙ g .1 in
-    let i = seat-inside m (a .ca) (g .0 .0) (g .0 .1 .0) (g .0 .1 .1 .0) e in
-    let stations : two m 6 ≤ 64 = c .before .before .before .before .before .before .before .pre .0 in
-    let k : c .before .two-at .result ≡ two m 4 = c .before .two-at .ensures .0 in
-    let room : 64 + 48 * two m 4 + 8 * two m 6 ≤ length m = c .before .before .before .before .before .before .before .pre .1 in
+    let at-seat = c .before .before .before in
+    let at-seat-at = at-seat .before .before in
+    let at-start = at-seat-at .before .before in
+    let i = seat-inside _ _ _ _ _ (sym (at-seat-at .seat-at .ensures) ∙ at-seat .seat .given .1) in
+    let stations = at-start .pre .0 in
+    let at = c .before .station-at .ensures in
+    let room = at-start .pre .1 in
     omega arith
 
 ask-requires : tie.Need-ask-requires
@@ -102,62 +76,72 @@ is-done-requires c κs = search needs
 
 returns-2 : tie.Need-returns-2
 returns-2 c =
-    let a = c .before .before .before .before .before .before .before .before .before .before .before .args in
+    let at-share-with = c .before .before .before in
+    let at-station-at = at-share-with .before .before in
+    let at-seat = at-station-at .before .before in
+    let at-seat-at = at-seat .before .before in
+    let at-start = at-seat-at .before .before in
+    let a = at-start .args in
     let m = now (a .m) in
-    let g = c .before .before .before .before .before .before .before .seat .given in
-    let e : seatAt m (a .ca) ≡ Here (g .0 .0) (g .0 .1 .0) (g .0 .1 .1 .0) = sym (c .before .before .before .before .before .before .before .before .before .seat-at .ensures) ∙ g .1 in
+    let g = at-seat .seat .given in
+    let e : seatAt m (a .ca) ≡ Here (g .0 .0) (g .0 .1 .0) (g .0 .1 .1 .0) = sym (at-seat-at .seat-at .ensures) ∙ g .1 in
     let taken = getD (now (a .taken)) (g .0 .0) 0 in
-    let k : c .before .before .before .before .before .two-at .result ≡ two m 4 = c .before .before .before .before .before .two-at .ensures .0 in
-    let s : c .before .before .before .share-with .result ≡ shareWith m (stationAt m (g .0 .0)) taken = c .before .before .before .share-with .ensures .0 ∙ ap (λ (x : ℕ). shareWith m (64 + 48 * x + 8 * g .0 .0) taken) k in
+    let s : at-share-with .share-with .result ≡ shareWith m (stationAt m (g .0 .0)) taken = at-share-with .share-with .ensures .0 ∙ ap (λ (x : ℕ). shareWith m x taken) (at-station-at .station-at .ensures) in
     let x : c .before .before .ask .result ≡ standingOf (shareWith m (stationAt m (g .0 .0)) taken) (a .free) (a .unmet) = c .before .before .ask .ensures ∙ ap (λ (y : Share). standingOf y (a .free) (a .unmet)) s in
     turn-refused m (now (a .taken)) (a .ca) (a .free) (a .unmet) (g .0 .0) (g .0 .1 .0) (g .0 .1 .1 .0) e (c .before .before .ask .result) x (sym (c .before .is-done .ensures) ∙ not-true _ (c .if1 .taken))
 
 add-taken : tie.Need-add-taken
 unfolding shareWith
 add-taken c =
-    let a = c .before .before .before .before .before .before .before .before .before .before .before .args in
+    let at-share-with = c .before .before .before in
+    let at-station-at = at-share-with .before .before in
+    let at-seat = at-station-at .before .before in
+    let at-seat-at = at-seat .before .before in
+    let at-start = at-seat-at .before .before in
+    let a = at-start .args in
     let m = now (a .m) in
-    let g = c .before .before .before .before .before .before .before .seat .given in
-    let e : seatAt m (a .ca) ≡ Here (g .0 .0) (g .0 .1 .0) (g .0 .1 .1 .0) = sym (c .before .before .before .before .before .before .before .before .before .seat-at .ensures) ∙ g .1 in
+    let g = at-seat .seat .given in
+    let e : seatAt m (a .ca) ≡ Here (g .0 .0) (g .0 .1 .0) (g .0 .1 .1 .0) = sym (at-seat-at .seat-at .ensures) ∙ g .1 in
     let taken = getD (now (a .taken)) (g .0 .0) 0 in
-    let k : c .before .before .before .before .before .two-at .result ≡ two m 4 = c .before .before .before .before .before .two-at .ensures .0 in
-    let s : c .before .before .before .share-with .result ≡ shareWith m (stationAt m (g .0 .0)) taken = c .before .before .before .share-with .ensures .0 ∙ ap (λ (x : ℕ). shareWith m (64 + 48 * x + 8 * g .0 .0) taken) k in
+    let s : at-share-with .share-with .result ≡ shareWith m (stationAt m (g .0 .0)) taken = at-share-with .share-with .ensures .0 ∙ ap (λ (x : ℕ). shareWith m x taken) (at-station-at .station-at .ensures) in
     let x : c .before .before .ask .result ≡ standingOf (shareWith m (stationAt m (g .0 .0)) taken) (a .free) (a .unmet) = c .before .before .ask .ensures ∙ ap (λ (y : Share). standingOf y (a .free) (a .unmet)) s in
     let d : isDone (c .before .before .ask .result .outcome) ≡ true = sym (c .before .is-done .ensures) ∙ not-false _ (c .if1 .left) in
     let b : shareWith m (stationAt m (g .0 .0)) taken .held < shareWith m (stationAt m (g .0 .0)) taken .ceiling =
     done-below (shareWith m (stationAt m (g .0 .0)) taken) (a .free) (a .unmet) (ap (λ (y : Standing). isDone (y .outcome)) (sym x) ∙ d) in
-    let l : shareWith m (stationAt m (g .0 .0)) taken .ceiling < 65536 = subst (λ (y : Share). y .ceiling < 65536) s (c .before .before .before .share-with .ensures .1) in
+    let l : shareWith m (stationAt m (g .0 .0)) taken .ceiling < 65536 = subst (λ (y : Share). y .ceiling < 65536) s (at-share-with .share-with .ensures .1) in
     record { fits = omega arith }
 
 mul-taken : tie.Need-mul-taken
 mul-taken c =
-    let a = c .before .before .before .before .before .before .before .before .before .before .before .args in
-    let m = now (a .m) in
-    let g = c .before .before .before .before .before .before .before .seat .given in
-    let e : seatAt m (a .ca) ≡ Here (g .0 .0) (g .0 .1 .0) (g .0 .1 .1 .0) = sym (c .before .before .before .before .before .before .before .before .before .seat-at .ensures) ∙ g .1 in
-    let i = seat-inside m (a .ca) (g .0 .0) (g .0 .1 .0) (g .0 .1 .1 .0) e in
-    let stations : two m 6 ≤ 64 = c .before .before .before .before .before .before .before .before .before .before .before .pre .0 in
+    let at-seat = c .before .before .before .before .before .before .before in
+    let at-seat-at = at-seat .before .before in
+    let at-start = at-seat-at .before .before in
+    let i = seat-inside _ _ _ _ _ (sym (at-seat-at .seat-at .ensures) ∙ at-seat .seat .given .1) in
+    let stations = at-start .pre .0 in
     omega arith
 
 element-write-taken : tie.Need-element-write-taken
 element-write-taken c =
-    let a = c .before .before .before .before .before .before .before .before .before .before .before .args in
-    let m = now (a .m) in
-    let g = c .before .before .before .before .before .before .before .seat .given in
-    let e : seatAt m (a .ca) ≡ Here (g .0 .0) (g .0 .1 .0) (g .0 .1 .1 .0) = sym (c .before .before .before .before .before .before .before .before .before .seat-at .ensures) ∙ g .1 in
-    let i = seat-inside m (a .ca) (g .0 .0) (g .0 .1 .0) (g .0 .1 .1 .0) e in
-    let stations : two m 6 ≤ 64 = c .before .before .before .before .before .before .before .before .before .before .before .pre .0 in
+    let at-seat = c .before .before .before .before .before .before .before in
+    let at-seat-at = at-seat .before .before in
+    let at-start = at-seat-at .before .before in
+    let i = seat-inside _ _ _ _ _ (sym (at-seat-at .seat-at .ensures) ∙ at-seat .seat .given .1) in
+    let stations = at-start .pre .0 in
     omega arith
 
 returns-3 : tie.Need-returns-3
 returns-3 c =
-    let a = c .before .before .before .before .before .before .before .before .before .before .before .args in
+    let at-share-with = c .before .before .before in
+    let at-station-at = at-share-with .before .before in
+    let at-seat = at-station-at .before .before in
+    let at-seat-at = at-seat .before .before in
+    let at-start = at-seat-at .before .before in
+    let a = at-start .args in
     let m = now (a .m) in
-    let g = c .before .before .before .before .before .before .before .seat .given in
-    let e : seatAt m (a .ca) ≡ Here (g .0 .0) (g .0 .1 .0) (g .0 .1 .1 .0) = sym (c .before .before .before .before .before .before .before .before .before .seat-at .ensures) ∙ g .1 in
+    let g = at-seat .seat .given in
+    let e : seatAt m (a .ca) ≡ Here (g .0 .0) (g .0 .1 .0) (g .0 .1 .1 .0) = sym (at-seat-at .seat-at .ensures) ∙ g .1 in
     let taken = getD (now (a .taken)) (g .0 .0) 0 in
-    let k : c .before .before .before .before .before .two-at .result ≡ two m 4 = c .before .before .before .before .before .two-at .ensures .0 in
-    let s : c .before .before .before .share-with .result ≡ shareWith m (stationAt m (g .0 .0)) taken = c .before .before .before .share-with .ensures .0 ∙ ap (λ (x : ℕ). shareWith m (64 + 48 * x + 8 * g .0 .0) taken) k in
+    let s : at-share-with .share-with .result ≡ shareWith m (stationAt m (g .0 .0)) taken = at-share-with .share-with .ensures .0 ∙ ap (λ (x : ℕ). shareWith m x taken) (at-station-at .station-at .ensures) in
     let x : c .before .before .ask .result ≡ standingOf (shareWith m (stationAt m (g .0 .0)) taken) (a .free) (a .unmet) = c .before .before .ask .ensures ∙ ap (λ (y : Share). standingOf y (a .free) (a .unmet)) s in
     turn-done m (now (a .taken)) (a .ca) (a .free) (a .unmet) (g .0 .0) (g .0 .1 .0) (g .0 .1 .1 .0) e (c .before .before .ask .result) x (sym (c .before .is-done .ensures) ∙ not-false _ (c .if1 .left))
 
@@ -169,13 +153,9 @@ turn-spec =
     enum-known-seat
     enum-told
     returns
-    two-at-requires
+    station-at-requires
     mul-earlier
     element-copy-out-earlier
-    mul-share-with
-    add-share-with
-    mul-share-with-2
-    add-share-with-2
     share-with-requires
     ask-requires
     is-done-requires

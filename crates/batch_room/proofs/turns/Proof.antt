@@ -40,9 +40,12 @@ is-done-requires c κs = search needs
 
 returns : tie.Need-returns Inv-loop μ-loop
 returns c =
-    let a = c .before .before .before .before .before .before .before .before .before .args in
-    let l = c .before .before .before .before .before .before .loop in
-    let k = c .before .before .before .before .two-at .ensures .0 in
+    let at-two-at = c .before .before .before .before in
+    let at-loop = at-two-at .before .before in
+    let at-start = at-loop .before .before .before in
+    let a = at-start .args in
+    let l = at-loop .loop in
+    let k = at-two-at .two-at .ensures .0 in
     let t = c .before .before .turn in
     let s = t .ensures .0 ∙ ap (λ (x : ℕ). standingAt (now (a .m)) (l .taken) (seatAt (now (a .m)) x) (l .free-now) (l .unmet-now)) k in
     let u = t .ensures .1 ∙ ap (λ (x : ℕ). takenAt (now (a .m)) (l .taken) (seatAt (now (a .m)) x) (l .free-now) (l .unmet-now)) k in
@@ -59,9 +62,12 @@ loop-less c = search needs
 
 loop-again : tie.Need-loop-again Inv-loop μ-loop
 loop-again c =
-    let a = c .before .before .before .before .before .before .before .before .before .args in
-    let l = c .before .before .before .before .before .before .loop in
-    let k = c .before .before .before .before .two-at .ensures .0 in
+    let at-two-at = c .before .before .before .before in
+    let at-loop = at-two-at .before .before in
+    let at-start = at-loop .before .before .before in
+    let a = at-start .args in
+    let l = at-loop .loop in
+    let k = at-two-at .two-at .ensures .0 in
     let t = c .before .before .turn in
     let s = t .ensures .0 ∙ ap (λ (x : ℕ). standingAt (now (a .m)) (l .taken) (seatAt (now (a .m)) x) (l .free-now) (l .unmet-now)) k in
     let u = t .ensures .1 ∙ ap (λ (x : ℕ). takenAt (now (a .m)) (l .taken) (seatAt (now (a .m)) x) (l .free-now) (l .unmet-now)) k in

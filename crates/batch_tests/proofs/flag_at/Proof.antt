@@ -1,7 +1,7 @@
 -- The flag of the address that the record's octets say. Assumes nothing.
 use borrow.Author.Needs.{needs}
 use mathlib.Core.Path.{ap₂, _∙_}
-use Rattle.batch_tests.specs.Tests.{flagOf, flagAt}
+use Rattle.batch_tests.specs.Tests.{addressFlag, flagAt}
 use Rattle.batch_tests.proofs.flag_at.Statement.{statement}
 use Rattle.batch_tests.proofs.flag_at.Tie as tie
 
@@ -21,7 +21,7 @@ returns : tie.Need-returns
 unfolding flagAt
 returns c =
     let f = c .flag-of .ensures in
-    (f .0 ∙ ap₂ flagOf (c .before .before .two-at .ensures .0) (c .before .four-at .ensures .0), f .1)
+    (f .0 ∙ ap₂ addressFlag (c .before .before .two-at .ensures .0) (c .before .four-at .ensures .0), f .1)
 
 pub flag-at-spec : {M : Type 1} → statement M
 flag-at-spec =

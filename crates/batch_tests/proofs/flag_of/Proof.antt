@@ -2,7 +2,7 @@
 use borrow.Author.Needs.{needs}
 use native.Mathlib.Omega.{arith}
 use mathlib.Core.Path.{refl}
-use Rattle.batch_tests.specs.Tests.{flagOf}
+use Rattle.batch_tests.specs.Tests.{addressFlag}
 use Rattle.batch_tests.proofs.flag_of.Statement.{statement}
 use Rattle.batch_tests.proofs.flag_of.Tie as tie
 
@@ -13,7 +13,7 @@ add-result : tie.Need-add-result
 add-result c = search needs
 
 returns : tie.Need-returns
-unfolding flagOf
+unfolding addressFlag
 returns c = (refl, omega arith)
 
 pub flag-of-spec : {M : Type 1} → statement M

@@ -2,15 +2,18 @@
 use borrow.Author.Needs.{needs}
 use borrow.Author.Tests.{not-true, not-false}
 use native.Mathlib.Omega.{arith}
-use mathlib.Core.Path.{_≡_, sym, _∙_}
+use mathlib.Core.Path.{_≡_, sym, ap, _∙_}
+use mathlib.Core.List.{[]}
 use mathlib.Core.Bool.{true, false}
+use Prim.Native.Nat.{ℕ}
 use denote.Ref.{now}
 use lib.ListN.{length}
-use Rattle.limits.specs.Size.{standardLimit}
 use Rattle.octets.specs.Over.{over}
+use Rattle.table.specs.Settings.{limitOf}
 use Rattle.table.specs.Memory.{tableOf}
-use Rattle.registry.specs.Effect.{holding}
-use Rattle.answers.specs.Process.{updatesAt, proposalOk, processCauseTaken, toldBy, tableAfter}
+use Rattle.answers.specs.Said.{lent}
+use Rattle.answers.specs.Process.{proposalOk, processCauseTaken}
+use Rattle.updates.specs.Updates.{toldByAll, leftByAll}
 use Rattle.commands.proofs.Laws.{gives, most-reply, process-silent, process-bad, process-untold, process-unanswered, process-done}
 use Rattle.commands.proofs.handle_process_command.Statement.{statement}
 use Rattle.commands.proofs.handle_process_command.Tie as tie
@@ -18,91 +21,125 @@ use Rattle.commands.proofs.handle_process_command.Tie as tie
 is-command-cot-requires : tie.Need-is-command-cot-requires
 is-command-cot-requires c κs = search needs
 
-refused-requires : tie.Need-refused-requires
-refused-requires c κs = search needs
+nothing-requires : tie.Need-nothing-requires
+nothing-requires c κs = search needs
 
 returns : tie.Need-returns
 returns c =
-    let a = c .before .before .before .before .before .before .before .before .args in
-    let e : processCauseTaken (a .command .cause) ≡ false = sym (c .before .before .is-command-cot .ensures) ∙ not-true _ (c .before .if1 .taken) in
-    gives _ _ _ _ _ _ _ (c .refused .ensures)
-    (process-silent (now (a .table)) (now (a .answer)) (now (a .spontaneous)) (a .negative) (a .reply-type) (now (a .reply)) (now (a .updates)) (a .command) (c .before .before .before .before .before .before .before .before .pre) e)
+    let at-cause = c .before .before in
+    let entry = at-cause .before .before .before .before .before .before in
+    let a = entry .args in
+    let l = lent (now (a .table)) [] (now (a .answer)) (now (a .spontaneous)) in
+    let e : processCauseTaken (a .command .cause) ≡ false = sym (at-cause .is-command-cot .ensures) ∙ not-true _ (c .before .if1 .taken) in
+    gives _ _ _ _ _ (c .nothing .ensures) (process-silent l (a .negative) (a .reply-type) (now (a .reply)) (now (a .updates)) (a .command) (entry .pre) e)
+
+limit-of-requires : tie.Need-limit-of-requires
+limit-of-requires c κs = c .before .before .before .before .before .before .before .before .pre
 
 is-proposal-requires : tie.Need-is-proposal-requires
 is-proposal-requires c κs = search needs
 
-refused-requires-2 : tie.Need-refused-requires-2
-refused-requires-2 c κs = search needs
+nothing-requires-2 : tie.Need-nothing-requires-2
+nothing-requires-2 c κs = search needs
+
+same-length : tie.Need-same-length
+same-length c = search needs
 
 returns-2 : tie.Need-returns-2
 returns-2 c =
-    let a = c .before .before .before .before .before .before .before .before .before .before .args in
-    let taken : processCauseTaken (a .command .cause) ≡ true = sym (c .before .before .before .before .is-command-cot .ensures) ∙ not-false _ (c .before .before .before .if1 .left) in
-    let e : proposalOk standardLimit (a .reply-type) (now (a .reply)) ≡ false = sym (c .before .before .is-proposal .ensures) ∙ not-true _ (c .before .if2 .taken) in
-    gives _ _ _ _ _ _ _ (c .refused2 .ensures)
-    (process-bad (now (a .table)) (now (a .answer)) (now (a .spontaneous)) (a .negative) (a .reply-type) (now (a .reply)) (now (a .updates)) (a .command) (c .before .before .before .before .before .before .before .before .before .before .pre) taken e)
+    let at-proposal = c .before .before in
+    let at-limit = at-proposal .before in
+    let at-cause = at-limit .before .before .before in
+    let entry = at-cause .before .before .before .before .before .before in
+    let a = entry .args in
+    let l = lent (now (a .table)) [] (now (a .answer)) (now (a .spontaneous)) in
+    let taken : processCauseTaken (a .command .cause) ≡ true = sym (at-cause .is-command-cot .ensures) ∙ not-false _ (at-limit .before .before .if1 .left) in
+    let e : proposalOk (limitOf (tableOf (now (a .table)))) (a .reply-type) (now (a .reply)) ≡ false =
+    ap (λ (n : ℕ). proposalOk n (a .reply-type) (now (a .reply))) (sym (at-limit .limit-of .ensures .0)) ∙ sym (at-proposal .is-proposal .ensures) ∙ not-true _ (c .before .if2 .taken) in
+    gives _ _ _ _ _ (c .nothing2 .ensures) (process-bad l (a .negative) (a .reply-type) (now (a .reply)) (now (a .updates)) (a .command) (entry .pre) taken e)
 
 updates-read-requires : tie.Need-updates-read-requires
 updates-read-requires c κs = search needs
 
 told-octets-requires : tie.Need-told-octets-requires
-told-octets-requires c κs = (c .before .before .before .before .before .before .before .before .before .before .before .pre, c .before .updates-read .ensures .1)
+told-octets-requires c κs =
+    let entry = c .before .before .before .before .before .before .before .before .before .before .before .before .before in
+    (entry .pre, c .before .updates-read .ensures .1)
 
-refused-requires-3 : tie.Need-refused-requires-3
-refused-requires-3 c κs = search needs
-
-same-length : tie.Need-same-length
-same-length c = search needs
-
-returns-3 : tie.Need-returns-3
-returns-3 c =
-    let a = c .before .before .before .before .before .before .before .before .before .before .before .before .before .before .args in
-    let taken : processCauseTaken (a .command .cause) ≡ true = sym (c .before .before .before .before .before .before .before .before .is-command-cot .ensures) ∙ not-false _ (c .before .before .before .before .before .before .before .if1 .left) in
-    let ok : proposalOk standardLimit (a .reply-type) (now (a .reply)) ≡ true = sym (c .before .before .before .before .before .before .is-proposal .ensures) ∙ not-false _ (c .before .before .before .before .before .if2 .left) in
-    let n = c .before .before .before .before .updates-read .ensures .0 in
-    let t = c .before .before .told-octets .ensures ∙ (λ j. length (toldBy (tableOf (now (a .table))) (updatesAt (now (a .updates)) 0 (n j)))) in
-    gives _ _ _ _ _ _ _ (c .refused3 .ensures)
-    (process-untold (now (a .table)) (now (a .answer)) (now (a .spontaneous)) (a .negative) (a .reply-type) (now (a .reply)) (now (a .updates)) (a .command) (c .before .before .before .before .before .before .before .before .before .before .before .before .before .before .pre) taken ok (omega arith))
-
-add-if4 : tie.Need-add-if4
-add-if4 c =
-    let a = c .before .before .before .before .before .before .before .before .before .before .before .before .before .args in
-    let ok : proposalOk standardLimit (a .reply-type) (now (a .reply)) ≡ true = sym (c .before .before .before .before .before .is-proposal .ensures) ∙ not-false _ (c .before .before .before .before .if2 .left) in
-    let most = most-reply (a .reply-type) (now (a .reply)) ok in
-    omega arith
-
-refused-requires-4 : tie.Need-refused-requires-4
-refused-requires-4 c κs = search needs
+nothing-requires-3 : tie.Need-nothing-requires-3
+nothing-requires-3 c κs = search needs
 
 same-length-2 : tie.Need-same-length-2
 same-length-2 c = search needs
 
-returns-4 : tie.Need-returns-4
-returns-4 c =
-    let a = c .before .before .before .before .before .before .before .before .before .before .before .before .before .before .before .args in
-    let taken : processCauseTaken (a .command .cause) ≡ true = sym (c .before .before .before .before .before .before .before .before .before .is-command-cot .ensures) ∙ not-false _ (c .before .before .before .before .before .before .before .before .if1 .left) in
-    let ok : proposalOk standardLimit (a .reply-type) (now (a .reply)) ≡ true = sym (c .before .before .before .before .before .before .before .is-proposal .ensures) ∙ not-false _ (c .before .before .before .before .before .before .if2 .left) in
-    let n = c .before .before .before .before .before .updates-read .ensures .0 in
-    let t = c .before .before .before .told-octets .ensures ∙ (λ j. length (toldBy (tableOf (now (a .table))) (updatesAt (now (a .updates)) 0 (n j)))) in
-    gives _ _ _ _ _ _ _ (c .refused4 .ensures)
-    (process-unanswered (now (a .table)) (now (a .answer)) (now (a .spontaneous)) (a .negative) (a .reply-type) (now (a .reply)) (now (a .updates)) (a .command) (c .before .before .before .before .before .before .before .before .before .before .before .before .before .before .before .pre) taken ok (omega arith) (omega arith))
+returns-3 : tie.Need-returns-3
+returns-3 c =
+    let at-told = c .before .before in
+    let at-read = at-told .before .before in
+    let at-proposal = at-read .before .before in
+    let at-limit = at-proposal .before in
+    let at-cause = at-limit .before .before .before in
+    let entry = at-cause .before .before .before .before .before .before in
+    let a = entry .args in
+    let l = lent (now (a .table)) [] (now (a .answer)) (now (a .spontaneous)) in
+    let taken : processCauseTaken (a .command .cause) ≡ true = sym (at-cause .is-command-cot .ensures) ∙ not-false _ (at-limit .before .before .if1 .left) in
+    let ok : proposalOk (limitOf (tableOf (now (a .table)))) (a .reply-type) (now (a .reply)) ≡ true =
+    ap (λ (n : ℕ). proposalOk n (a .reply-type) (now (a .reply))) (sym (at-limit .limit-of .ensures .0)) ∙ sym (at-proposal .is-proposal .ensures) ∙ not-false _ (at-read .before .if2 .left) in
+    let n = at-read .updates-read .ensures .0 in
+    let t = at-told .told-octets .ensures ∙ (λ j. length (toldByAll (now (a .table)) (now (a .updates)) 0 (n j))) in
+    gives _ _ _ _ _ (c .nothing3 .ensures)
+    (process-untold l (a .negative) (a .reply-type) (now (a .reply)) (now (a .updates)) (a .command) (entry .pre) taken ok (omega arith))
 
-apply-requires : tie.Need-apply-requires
-apply-requires c κs =
-    let a = c .before .before .before .before .before .before .before .before .before .before .before .before .before .before .before .before .args in
-    let t = c .before .before .before .before .told-octets .ensures in
-    (c .before .before .before .before .before .before .before .before .before .before .before .before .before .before .before .before .pre, c .before .before .before .before .before .before .updates-read .ensures .1, omega arith)
+add-if4 : tie.Need-add-if4
+add-if4 c =
+    let at-proposal = c .before .before .before .before .before in
+    let at-limit = at-proposal .before in
+    let a = at-limit .before .before .before .before .before .before .before .before .before .args in
+    let most = most-reply (at-limit .limit-of .result) (a .reply-type) (now (a .reply)) (sym (at-proposal .is-proposal .ensures) ∙ not-false _ (c .before .before .before .before .if2 .left)) in
+    omega arith
 
-put-command-confirmation-requires : tie.Need-put-command-confirmation-requires
-put-command-confirmation-requires c κs =
-    let a = c .before .before .before .before .before .before .before .before .before .before .before .before .before .before .before .before .before .before .before .before .before .before .args in
-    let ok : proposalOk standardLimit (a .reply-type) (now (a .reply)) ≡ true = sym (c .before .before .before .before .before .before .before .before .before .before .before .before .before .before .is-proposal .ensures) ∙ not-false _ (c .before .before .before .before .before .before .before .before .before .before .before .before .before .if2 .left) in
-    let most = most-reply (a .reply-type) (now (a .reply)) ok in
-    let room = c .before .before .before .before .before .before .before .before .if4 .left in
-    (omega arith, omega arith)
+nothing-requires-4 : tie.Need-nothing-requires-4
+nothing-requires-4 c κs = search needs
 
 same-length-3 : tie.Need-same-length-3
 same-length-3 c = search needs
+
+returns-4 : tie.Need-returns-4
+returns-4 c =
+    let at-told = c .before .before .before in
+    let at-read = at-told .before .before in
+    let at-proposal = at-read .before .before in
+    let at-limit = at-proposal .before in
+    let at-cause = at-limit .before .before .before in
+    let entry = at-cause .before .before .before .before .before .before in
+    let a = entry .args in
+    let l = lent (now (a .table)) [] (now (a .answer)) (now (a .spontaneous)) in
+    let taken : processCauseTaken (a .command .cause) ≡ true = sym (at-cause .is-command-cot .ensures) ∙ not-false _ (at-limit .before .before .if1 .left) in
+    let ok : proposalOk (limitOf (tableOf (now (a .table)))) (a .reply-type) (now (a .reply)) ≡ true =
+    ap (λ (n : ℕ). proposalOk n (a .reply-type) (now (a .reply))) (sym (at-limit .limit-of .ensures .0)) ∙ sym (at-proposal .is-proposal .ensures) ∙ not-false _ (at-read .before .if2 .left) in
+    let n = at-read .updates-read .ensures .0 in
+    let t = at-told .told-octets .ensures ∙ (λ j. length (toldByAll (now (a .table)) (now (a .updates)) 0 (n j))) in
+    gives _ _ _ _ _ (c .nothing4 .ensures)
+    (process-unanswered l (a .negative) (a .reply-type) (now (a .reply)) (now (a .updates)) (a .command) (entry .pre) taken ok (omega arith) (omega arith))
+
+apply-model-updates-requires : tie.Need-apply-model-updates-requires
+apply-model-updates-requires c κs =
+    let at-told = c .before .before .before .before in
+    let at-read = at-told .before .before in
+    let entry = at-read .before .before .before .before .before .before .before .before .before .before .before .before in
+    let t = at-told .told-octets .ensures in
+    (entry .pre, at-read .updates-read .ensures .1, omega arith)
+
+send-command-confirmation-requires : tie.Need-send-command-confirmation-requires
+send-command-confirmation-requires c κs =
+    let at-room = c .before .before .before .before .before .before .before .before in
+    let at-test = at-room .before .before .before .before .before in
+    let at-limit = at-test .before .before in
+    let a = at-limit .before .before .before .before .before .before .before .before .before .args in
+    let most = most-reply (at-limit .limit-of .result) (a .reply-type) (now (a .reply)) (sym (at-test .before .is-proposal .ensures) ∙ not-false _ (at-test .if2 .left)) in
+    let high = at-limit .limit-of .ensures .2 in
+    let room = at-room .if4 .left in
+    (omega arith, omega arith)
 
 same-length-4 : tie.Need-same-length-4
 same-length-4 c = search needs
@@ -110,47 +147,61 @@ same-length-4 c = search needs
 same-length-5 : tie.Need-same-length-5
 same-length-5 c = search needs
 
+same-length-6 : tie.Need-same-length-6
+same-length-6 c = search needs
+
 returns-5 : tie.Need-returns-5
 returns-5 c =
-    let a = c .before .before .before .before .before .before .before .before .before .before .before .before .before .before .before .before .before .before .before .before .before .before .before .before .before .args in
-    let table = now (a .table) in
+    let at-confirmed = c .before .before in
+    let at-applied = at-confirmed .before .before .before .before .before .before in
+    let at-room = at-applied .before .before .before in
+    let at-told = at-room .before .before in
+    let at-read = at-told .before .before in
+    let at-proposal = at-read .before .before in
+    let at-limit = at-proposal .before in
+    let at-cause = at-limit .before .before .before in
+    let entry = at-cause .before .before .before .before .before .before in
+    let a = entry .args in
+    let l = lent (now (a .table)) [] (now (a .answer)) (now (a .spontaneous)) in
     let us = now (a .updates) in
-    let taken : processCauseTaken (a .command .cause) ≡ true = sym (c .before .before .before .before .before .before .before .before .before .before .before .before .before .before .before .before .before .before .before .is-command-cot .ensures) ∙ not-false _ (c .before .before .before .before .before .before .before .before .before .before .before .before .before .before .before .before .before .before .if1 .left) in
-    let ok : proposalOk standardLimit (a .reply-type) (now (a .reply)) ≡ true = sym (c .before .before .before .before .before .before .before .before .before .before .before .before .before .before .before .before .before .is-proposal .ensures) ∙ not-false _ (c .before .before .before .before .before .before .before .before .before .before .before .before .before .before .before .before .if2 .left) in
-    let n = c .before .before .before .before .before .before .before .before .before .before .before .before .before .before .before .updates-read .ensures .0 in
-    let t = c .before .before .before .before .before .before .before .before .before .before .before .before .before .told-octets .ensures ∙ (λ j. length (toldBy (tableOf table) (updatesAt us 0 (n j)))) in
-    let p = c .before .before .before .before .before .before .before .before .apply .ensures in
-    let q = c .before .before .put-command-confirmation .ensures in
-    let short = c .before .before .before .before .before .before .before .before .before .before .before .before .if3 .left in
-    let room = c .before .before .before .before .before .before .before .before .before .before .before .if4 .left in
-    process-done table (now (a .answer)) (now (a .spontaneous)) (a .negative) (a .reply-type) (now (a .reply)) us (a .command) (c .before .before .before .before .before .before .before .before .before .before .before .before .before .before .before .before .before .before .before .before .before .before .before .before .before .pre) taken ok
-    _ _ _ _ _ (q .0) (omega arith) t (omega arith)
-    (p .1 ∙ (λ j. holding table (tableOf table) (tableAfter (tableOf table) (updatesAt us 0 (n j)))))
+    let taken : processCauseTaken (a .command .cause) ≡ true = sym (at-cause .is-command-cot .ensures) ∙ not-false _ (at-limit .before .before .if1 .left) in
+    let ok : proposalOk (limitOf (tableOf (now (a .table)))) (a .reply-type) (now (a .reply)) ≡ true =
+    ap (λ (n : ℕ). proposalOk n (a .reply-type) (now (a .reply))) (sym (at-limit .limit-of .ensures .0)) ∙ sym (at-proposal .is-proposal .ensures) ∙ not-false _ (at-read .before .if2 .left) in
+    let n = at-read .updates-read .ensures .0 in
+    let t = at-told .told-octets .ensures ∙ (λ j. length (toldByAll (l .table) us 0 (n j))) in
+    let p = at-applied .apply-model-updates .ensures in
+    let q = at-confirmed .send-command-confirmation .ensures in
+    let short = at-room .before .if3 .left in
+    let room = at-room .if4 .left in
+    process-done l (a .negative) (a .reply-type) (now (a .reply)) us (a .command) (entry .pre) taken ok _ _ _ _ _ (q .0) (omega arith) t (omega arith)
+    (p .memory ∙ (λ j. leftByAll (l .table) us 0 (n j)))
     (q .1)
-    (p .2 ∙ (λ j. over (now (a .spontaneous)) 0 (toldBy (tableOf table) (updatesAt us 0 (n j)))))
+    (p .output ∙ (λ j. over (l .spontaneous) 0 (toldByAll (l .table) us 0 (n j))))
 
 pub handle-process-command-spec : {M : Type 1} → statement M
 handle-process-command-spec =
     tie.close
     (tie.spec
     is-command-cot-requires
-    refused-requires
+    nothing-requires
     returns
+    limit-of-requires
     is-proposal-requires
-    refused-requires-2
+    nothing-requires-2
+    same-length
     returns-2
     updates-read-requires
     told-octets-requires
-    refused-requires-3
-    same-length
+    nothing-requires-3
+    same-length-2
     returns-3
     add-if4
-    refused-requires-4
-    same-length-2
-    returns-4
-    apply-requires
-    put-command-confirmation-requires
+    nothing-requires-4
     same-length-3
+    returns-4
+    apply-model-updates-requires
+    send-command-confirmation-requires
     same-length-4
     same-length-5
+    same-length-6
     returns-5)

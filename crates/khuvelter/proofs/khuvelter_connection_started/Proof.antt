@@ -17,7 +17,7 @@ same-length c = search needs
 returns : tie.Need-returns
 returns c =
     let e = c .before .before .before .connection-started .ensures in
-    (c .answer-reply .ensures ∙ ap answerReply (e .0), e .1)
+    record { answered = c .answer-reply .ensures ∙ ap answerReply (e .answers); left = e .leaves }
 
 pub khuvelter-connection-started-spec : {M : Type 1} → statement M
 khuvelter-connection-started-spec = tie.close (tie.spec connection-started-requires answer-reply-requires same-length returns)

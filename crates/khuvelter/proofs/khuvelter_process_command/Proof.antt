@@ -1,16 +1,14 @@
 -- What the entry gives back, in plain numbers; the memories are as the entry leaves them. Assumes nothing.
-use mathlib.Core.Path.{_≡_, sym, ap, _∙_}
+use mathlib.Core.Path.{ap, _∙_}
+use mathlib.Core.List.{[]}
 use mathlib.Core.Bool.{Bool}
 use denote.Ref.{now}
-use Rattle.limits.specs.Size.{standardLimit}
-use Rattle.answers.specs.Said.{Said, answeredOn, lentAfter}
 use Rattle.table.specs.Table.{Table}
+use Rattle.answers.specs.Said.{Said, lent, answeredOn, lentAfter}
 use Rattle.answers.specs.Process.{processSaid}
-use Rattle.commands.specs.Entry.{proposalOf, lentTo}
-use Rattle.khuvelter.specs.Interface.{answerReply, SystemReply, ProcessReply}
-use Rattle.answers.specs.Said.{answeredOn, lentAfter}
+use Rattle.commands.specs.Entry.{proposalOf}
+use Rattle.khuvelter.specs.Interface.{answerReply}
 use borrow.Author.Needs.{needs}
-use native.Mathlib.Omega.{arith}
 use Rattle.khuvelter.proofs.khuvelter_process_command.Statement.{statement}
 use Rattle.khuvelter.proofs.khuvelter_process_command.Tie as tie
 
@@ -34,12 +32,17 @@ same-length-3 c = search needs
 
 returns : tie.Need-returns
 returns c =
-    let a = c .before .before .before .before .before .before .before .before .before .before .before .before .before .before .before .before .before .before .args in
-    let e = c .before .before .before .before .before .before .before .process-command .ensures in
-    let s = c .before .before .before .before .before .before .before .before .before .before .is-set .ensures in
-    let l = lentTo (now (a .table)) (now (a .answer)) (now (a .spontaneous)) in
-    let f : Bool → Table → Said = λ b. processSaid standardLimit (proposalOf b (a .reply-type) (now (a .reply)) (now (a .updates))) (now (a .asdu)) in
-    record { answered = c .answer-reply .ensures ∙ ap answerReply (e .0) ∙ (λ j. answerReply (answeredOn (f (s j)) l)); table-left = e .1 ∙ (λ j. lentAfter (f (s j)) l .table); answer-left = e .2 ∙ (λ j. lentAfter (f (s j)) l .answer); spontaneous-left = e .3 ∙ (λ j. lentAfter (f (s j)) l .spontaneous) }
+    let at-before = c .before .before .before .before .before .before in
+    let at-called = at-before .before in
+    let at-flag = at-called .before .before .before in
+    let a = at-flag .before .before .before .before .before .before .before .before .args in
+    let e = at-called .process-command .ensures in
+    let l = lent (now (a .table)) [] (now (a .answer)) (now (a .spontaneous)) in
+    let f : Bool → Table → Said = λ b. processSaid [] (proposalOf b (a .reply-type) (now (a .reply)) (now (a .updates))) (now (a .asdu)) in
+    record {
+      answered = c .answer-reply .ensures ∙ ap answerReply (e .answers) ∙ (λ j. answerReply (answeredOn (f (at-flag .is-set .ensures j)) l));
+      left = e .leaves ∙ (λ j. lentAfter (f (at-flag .is-set .ensures j)) l);
+    }
 
 pub khuvelter-process-command-spec : {M : Type 1} → statement M
 khuvelter-process-command-spec =

@@ -6,6 +6,7 @@ use Rattle.model.specs.declared.Request.{Request}
 use Rattle.registry.specs.Effect.{replyOn, memoryOn}
 use Rattle.registry.specs.Registry.{registering}
 use Rattle.khuvelter.specs.Interface.{placeReply}
+use Rattle.khuvelter.specs.Calls.{tableAlone}
 use Rattle.khuvelter.proofs.khuvelter_register_point.Statement.{statement}
 use Rattle.khuvelter.proofs.khuvelter_register_point.Tie as tie
 
@@ -23,11 +24,17 @@ same-length c = search needs
 
 returns : tie.Need-returns
 returns c =
-    let a = c .before .before .before .before .before .before .before .before .args in
+    let at-register-point = c .before .before .before in
+    let at-request-at = at-register-point .before .before in
+    let entry = at-request-at .before .before .before in
+    let a = entry .args in
     let m = now (a .table) in
-    let q = c .before .before .before .before .before .request-at .ensures in
-    let e = c .before .before .before .register-point .ensures in
-    (c .place-reply .ensures ∙ ap placeReply (e .0 ∙ ap (λ (x : Request). replyOn (registering x) m) q), e .1 ∙ ap (λ (x : Request). memoryOn (registering x) m) q)
+    let q = at-request-at .request-at .ensures in
+    let e = at-register-point .register-point .ensures in
+    record {
+      answered = c .place-reply .ensures ∙ ap placeReply (e .0 ∙ ap (λ (x : Request). replyOn (registering x) m) q);
+      left = ap tableAlone (e .1 ∙ ap (λ (x : Request). memoryOn (registering x) m) q);
+    }
 
 pub khuvelter-register-point-spec : {M : Type 1} → statement M
 khuvelter-register-point-spec = tie.close (tie.spec request-at-requires register-point-requires place-reply-requires same-length returns)

@@ -1,16 +1,7 @@
 -- What the entry gives back, in plain numbers; the memories are as the entry leaves them. Assumes nothing.
-use mathlib.Core.Path.{_≡_, sym, ap, _∙_}
-use mathlib.Core.Bool.{Bool}
-use denote.Ref.{now}
-use Rattle.limits.specs.Size.{standardLimit}
-use Rattle.answers.specs.Said.{Said, answeredOn, lentAfter}
-use Rattle.table.specs.Table.{Table}
-use Rattle.answers.specs.Process.{processSaid}
-use Rattle.commands.specs.Entry.{proposalOf, lentTo}
-use Rattle.khuvelter.specs.Interface.{answerReply, SystemReply, ProcessReply}
-use Rattle.answers.specs.Said.{answeredOn, lentAfter}
+use mathlib.Core.Path.{ap, _∙_}
+use Rattle.khuvelter.specs.Interface.{answerReply}
 use borrow.Author.Needs.{needs}
-use native.Mathlib.Omega.{arith}
 use Rattle.khuvelter.proofs.khuvelter_system_command.Statement.{statement}
 use Rattle.khuvelter.proofs.khuvelter_system_command.Tie as tie
 
@@ -29,7 +20,7 @@ same-length-2 c = search needs
 returns : tie.Need-returns
 returns c =
     let e = c .before .before .before .before .before .before .system-command .ensures in
-    record { answered = c .answer-reply .ensures ∙ ap answerReply (e .answered); clock-left = e .clock-left; table-left = e .table-left; answer-left = e .answer-left }
+    record { answered = c .answer-reply .ensures ∙ ap answerReply (e .answers); left = e .leaves }
 
 pub khuvelter-system-command-spec : {M : Type 1} → statement M
 khuvelter-system-command-spec =

@@ -2,6 +2,7 @@
 use borrow.Author.Needs.{needs}
 use mathlib.Core.Path.{ap, _∙_}
 use Rattle.khuvelter.specs.Interface.{placeReply}
+use Rattle.khuvelter.specs.Calls.{tableAlone}
 use Rattle.khuvelter.proofs.khuvelter_unregister_all.Statement.{statement}
 use Rattle.khuvelter.proofs.khuvelter_unregister_all.Tie as tie
 
@@ -17,7 +18,7 @@ same-length c = search needs
 returns : tie.Need-returns
 returns c =
     let e = c .before .before .before .unregister-all .ensures in
-    (c .place-reply .ensures ∙ ap placeReply (e .0), e .1)
+    record { answered = c .place-reply .ensures ∙ ap placeReply (e .0); left = ap tableAlone (e .1) }
 
 pub khuvelter-unregister-all-spec : {M : Type 1} → statement M
 khuvelter-unregister-all-spec = tie.close (tie.spec unregister-all-requires place-reply-requires same-length returns)

@@ -44,7 +44,7 @@ returns c =
     let b = 64 + 48 * a .k in
     let start = c .before .before .before .before .before .before .before .before .before .before .before .before .before .head-start .ensures in
     let first = c .before .before .before .before .before .before .before .before .before .before .copy-in .ensures ∙ (λ j. over (now (a .table)) 0 (start j)) in
-    let second = c .before .before .before .before .before .before .clear .ensures ∙ (λ j. over (first j) 10 (replicate (b - 10) 0)) in
+    let second = c .before .before .before .before .before .before .clear .ensures ∙ (λ j. over (first j) 14 (replicate (b - 14) 0)) in
     c .before .before .put-stations .ensures
     ∙ (λ j. over (second j) b (entries (planned plan)))
     ∙ written (now (a .table)) (a .k) (a .n) plan (length-planned plan (a .n) (omega arith)) (omega arith)

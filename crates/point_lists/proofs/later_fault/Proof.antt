@@ -3,12 +3,11 @@ use borrow.Author.Needs.{needs}
 use borrow.Author.Tests.{not-true, not-false}
 use native.Mathlib.Omega.{arith}
 use mathlib.Core.Path.{_≡_, sym, ap, _∙_}
-use mathlib.Core.List.{List, []}
+use mathlib.Core.List.{[]}
 use mathlib.Core.Bool.{Bool, true, false}
 use Prim.Native.Nat.{ℕ}
 use denote.Ref.{now}
 use Rattle.limits.specs.Test.{pick as choose}
-use Rattle.model.specs.declared.Request.{Request}
 use Rattle.table.specs.Memory.{wellFormed, tableOf}
 use Rattle.records.specs.Records.{requestsIn}
 use Rattle.registry.specs.declared.Reply.{Reply}

@@ -1,6 +1,6 @@
 -- The octets one by one, each group taken apart by its own function. Assumes nothing.
 use mathlib.Core.Path.{_≡_, refl}
-use Rattle.points.specs.Points.{recordOf}
+use Rattle.points.specs.Points.{flatRecord}
 use borrow.Author.Needs.{needs}
 use native.Mathlib.Omega.{arith}
 use Rattle.points.proofs.record_of.Statement.{statement}
@@ -73,7 +73,7 @@ array-read-t58 : tie.Need-array-read-t58
 array-read-t58 c = search needs
 
 returns : tie.Need-returns
-unfolding recordOf
+unfolding flatRecord
 returns c = rw (c .number-in2 .ensures, c .before .has-of2 .ensures, c .before .before .number-in .ensures, c .before .before .before .has-of .ensures) refl
 
 pub record-of-spec : {M : Type 1} → statement M

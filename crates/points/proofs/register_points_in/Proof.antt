@@ -17,7 +17,7 @@ use ghost.Atoms.{Atoms, sem}
 use contract.Monad.{Fun, fact}
 use contract.Running.{givenOf, tables, tablesOf}
 use types.Kit.{Given, Item, ‵, raw, some, later, _⊛_, ⋆, _$_, _∵_, !, qed, by, move, keep, drop, use0, use1, use2, use3, group, split, join, pick, rewrite, fsplit, fjoin, feqL, suffices, frame, await, done}
-use types.Run.{look, init, forget, stop, hop, fld, from, load, addr, of-opd, and-then, no-more, assigns, land, returns, enter, params1, pass1, pass0, free1, free0}
+use types.Run.{look, init, forget, stop, hop, fld, from, load, addr, and-then, no-more, assigns, land, returns, enter, params1, pass1, pass0, free1, free0}
 use types.Part.{agg, whole, sub, look-in}
 use types.Tokens.{lft-new, lft-end}
 use sound.WpLaws.{fmOf, WpFn-mono}
@@ -46,7 +46,8 @@ use Rattle.points.specs.Fold.{noneTaken}
 use Rattle.points.specs.declared.Taken.{Taken}
 use Rattle.points.proofs.Again.{LentAgain, lends-again, comes-back}
 use Rattle.points.proofs.Locals.{alloc-all}
-use Rattle.points.proofs.Records.{Took, Registered, Answers, taken-within, answers}
+use Rattle.points.specs.Entry.{Registered, Answers}
+use Rattle.points.proofs.Records.{Took, taken-within, answers}
 use Rattle.points.proofs.Taken as S
 use Rattle.points.proofs.Taken.Laws as S′
 use Rattle.points.proofs.none_taken as none

@@ -21,21 +21,21 @@ loop-holds c = (refl, omega arith)
 sub-left : tie.Need-sub-left Inv-loop μ-loop
 sub-left c = search needs
 
-mul-address-at : tie.Need-mul-address-at Inv-loop μ-loop
-mul-address-at c = search needs
+mul-has-address : tie.Need-mul-has-address Inv-loop μ-loop
+mul-has-address c = search needs
 
-address-at-requires : tie.Need-address-at-requires Inv-loop μ-loop
-address-at-requires c κs = omega arith
+has-address-requires : tie.Need-has-address-requires Inv-loop μ-loop
+has-address-requires c κs = omega arith
 
 returns : tie.Need-returns Inv-loop μ-loop
-returns c = sym (c .before .before .before .loop .inv .0 ∙ stands-hit _ _ _ _ (omega arith) (sym (c .before .address-at .ensures) ∙ c .if1 .taken))
+returns c = sym (c .before .before .before .loop .inv .0 ∙ stands-hit _ _ _ _ (omega arith) (sym (c .before .has-address .ensures) ∙ c .if1 .taken))
 
 loop-less : tie.Need-loop-less Inv-loop μ-loop
 loop-less c = search needs
 
 loop-again : tie.Need-loop-again Inv-loop μ-loop
 loop-again c = (
-  c .before .before .before .loop .inv .0 ∙ stands-on _ _ _ _ (omega arith) (sym (c .before .address-at .ensures) ∙ c .if1 .left),
+  c .before .before .before .loop .inv .0 ∙ stands-on _ _ _ _ (omega arith) (sym (c .before .has-address .ensures) ∙ c .if1 .left),
   omega arith,
 )
 
@@ -50,8 +50,8 @@ stands-before-spec =
     μ-loop
     loop-holds
     sub-left
-    mul-address-at
-    address-at-requires
+    mul-has-address
+    has-address-requires
     returns
     loop-less
     loop-again

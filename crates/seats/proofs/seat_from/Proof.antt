@@ -19,20 +19,17 @@ abbrev μ-loop : tie.MeasureT-loop
 loop-holds : tie.Need-loop-holds Inv-loop μ-loop
 loop-holds c = (refl, omega arith, omega arith, omega arith, omega arith)
 
-add-two-at : tie.Need-add-two-at Inv-loop μ-loop
-add-two-at c = search needs
+held-at-requires : tie.Need-held-at-requires Inv-loop μ-loop
+held-at-requires c κs = search needs
 
-two-at-requires : tie.Need-two-at-requires Inv-loop μ-loop
-two-at-requires c κs = search needs
-
-two-at-requires-2 : tie.Need-two-at-requires-2 Inv-loop μ-loop
-two-at-requires-2 c κs = search needs
+ca-at-requires : tie.Need-ca-at-requires Inv-loop μ-loop
+ca-at-requires c κs = search needs
 
 returns : tie.Need-returns Inv-loop μ-loop
 returns c =
     let m = now (c .before .before .before .before .before .before .args .m) in
     let l = c .before .before .before .before .loop in
-    let h : c .before .before .two-at .result ≡ two m (l .station + 6) = omega arith in
+    let h : c .before .before .held-at .result ≡ two m (l .station + 6) = omega arith in
     rw h (sym (l .inv .0 ∙ seat-hit _ _ _ _ _ _ (omega arith) (omega arith)))
 
 add-i : tie.Need-add-i Inv-loop μ-loop
@@ -57,7 +54,7 @@ loop-again : tie.Need-loop-again Inv-loop μ-loop
 loop-again c =
     let m = now (c .before .before .before .before .before .before .args .m) in
     let l = c .before .before .before .before .loop in
-    let h : c .before .before .two-at .result ≡ two m (l .station + 6) = omega arith in
+    let h : c .before .before .held-at .result ≡ two m (l .station + 6) = omega arith in
     (l .inv .0 ∙ seat-on _ _ _ _ _ _ (omega arith) (omega arith) ∙ rw h refl, omega arith, omega arith, omega arith, omega arith)
 
 returns-2 : tie.Need-returns-2 Inv-loop μ-loop
@@ -70,9 +67,8 @@ seat-from-spec =
     Inv-loop
     μ-loop
     loop-holds
-    add-two-at
-    two-at-requires
-    two-at-requires-2
+    held-at-requires
+    ca-at-requires
     returns
     add-i
     mul-place

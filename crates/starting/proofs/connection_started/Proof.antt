@@ -1,79 +1,106 @@
--- Each way out is one of the laws; the head of a well-formed table bounds the reads.
+-- Each way out is one of the laws; the head of a well-formed table bounds the reads. Assumes nothing.
 use borrow.Author.Needs.{needs}
 use borrow.Author.Tests.{not-true, not-false}
 use native.Mathlib.Omega.{arith}
-use mathlib.Core.Path.{sym, _∙_}
+use mathlib.Core.Path.{_≡_, sym, _∙_}
+use mathlib.Core.List.{[]}
 use Prim.Native.Nat.{_+_, _*_}
 use denote.Ref.{now}
+use Rattle.octets.specs.Number.{Octets}
+use Rattle.layout.specs.Layout.{stationSize, stationsIn, stationsFrom}
 use Rattle.table.proofs.Parse.{passed}
+use Rattle.report.proofs.Single.{length-end}
+use Rattle.answers.specs.Said.{lent}
+use Rattle.answers.specs.Start.{startSaid}
+use Rattle.answers.proofs.Ends.{ends-no-table}
 use Rattle.starting.specs.Starting.{commonAddressAt}
-use Rattle.starting.proofs.Laws.{start-no-table, start-short, start-done}
+use Rattle.starting.proofs.Laws.{start-short, start-done}
 use Rattle.starting.proofs.connection_started.Statement.{statement}
 use Rattle.starting.proofs.connection_started.Tie as tie
 
 well-formed-requires : tie.Need-well-formed-requires
 well-formed-requires c κs = search needs
 
+nothing-requires : tie.Need-nothing-requires
+nothing-requires c κs = search needs
+
 returns : tie.Need-returns
 returns c =
-    let a = c .before .before .before .before .args in
-    start-no-table (now (a .table)) (now (a .answer)) (sym (c .before .well-formed .ensures) ∙ not-true _ (c .if1 .taken))
+    let at-formed = c .before .before in
+    let a = at-formed .before .before .before .args in
+    let e = ends-no-table (startSaid []) (lent (now (a .table)) [] (now (a .answer)) []) (sym (at-formed .well-formed .ensures) ∙ not-true _ (c .before .if1 .taken)) in
+    record { answers = c .nothing .ensures ∙ e .answers; leaves = e .leaves }
+
+nothing-requires-2 : tie.Need-nothing-requires-2
+nothing-requires-2 c κs = search needs
 
 returns-2 : tie.Need-returns-2
 returns-2 c =
-    let a = c .before .before .before .before .before .args in
-    start-short (now (a .table)) (now (a .answer)) (sym (c .before .before .well-formed .ensures) ∙ not-false _ (c .before .if1 .left)) (omega arith)
+    let at-test = c .before .before in
+    let a = at-test .before .before .before .before .args in
+    let e = start-short (now (a .table)) (now (a .answer)) (sym (at-test .before .well-formed .ensures) ∙ not-false _ (at-test .if1 .left)) (omega arith) in
+    record { answers = c .nothing2 .ensures ∙ e .answers; leaves = e .leaves }
 
-two-at-requires : tie.Need-two-at-requires
-two-at-requires c κs =
-    let t = passed _ (sym (c .before .before .well-formed .ensures) ∙ not-false _ (c .before .if1 .left)) .top in
+station-at-requires : tie.Need-station-at-requires
+station-at-requires c κs =
+    let at-test = c .before in
+    let t = passed _ (sym (at-test .before .well-formed .ensures) ∙ not-false _ (at-test .if1 .left)) .top in
+    (omega arith, omega arith)
+
+stations-of-requires : tie.Need-stations-of-requires
+stations-of-requires c κs =
+    let at-test = c .before .before in
+    let t = passed _ (sym (at-test .before .well-formed .ensures) ∙ not-false _ (at-test .if1 .left)) .top in
     omega arith
-
-two-at-requires-2 : tie.Need-two-at-requires-2
-two-at-requires-2 c κs =
-    let t = passed _ (sym (c .before .before .before .well-formed .ensures) ∙ not-false _ (c .before .before .if1 .left)) .top in
-    omega arith
-
-mul-station-common-address : tie.Need-mul-station-common-address
-mul-station-common-address c = search needs
-
-add-station-common-address : tie.Need-add-station-common-address
-add-station-common-address c = search needs
 
 station-common-address-requires : tie.Need-station-common-address-requires
 station-common-address-requires c κs =
-    let t = passed _ (sym (c .before .before .before .before .well-formed .ensures) ∙ not-false _ (c .before .before .before .if1 .left)) .top in
+    let at-test = c .before .before .before in
+    let t = passed _ (sym (at-test .before .well-formed .ensures) ∙ not-false _ (at-test .if1 .left)) .top in
     omega arith
 
-put-end-of-initialization-requires : tie.Need-put-end-of-initialization-requires
-put-end-of-initialization-requires c κs = search needs
+end-of-initialization-asdu-requires : tie.Need-end-of-initialization-asdu-requires
+end-of-initialization-asdu-requires c κs =
+    let n = length-end (c .before .station-common-address .result) in
+    (omega arith, omega arith)
+
+given-requires : tie.Need-given-requires
+given-requires c κs = search needs
 
 same-length : tie.Need-same-length
 same-length c = search needs
 
 returns-3 : tie.Need-returns-3
 returns-3 c =
-    let a = c .before .before .before .before .before .before .before .before .before .before .before .before .args in
+    let at-written = c .before .before .before in
+    let at-address = at-written .before .before in
+    let at-count = at-address .before in
+    let at-first = at-count .before in
+    let at-test = at-first .before .before in
+    let at-known = at-test .before .before .before in
+    let a = at-known .before .args in
     let m = now (a .table) in
-    let w = sym (c .before .before .before .before .before .before .before .before .before .well-formed .ensures) ∙ not-false _ (c .before .before .before .before .before .before .before .before .if1 .left) in
-    let k = c .before .before .before .before .before .before .two-at .ensures .0 in
-    let n = c .before .before .before .before .before .two-at2 .ensures .0 in
-    let ca = c .before .before .before .before .station-common-address .ensures .0 ∙ (λ j. commonAddressAt m (64 + 48 * k j) (n j)) in
-    let e = start-done m (now (a .answer)) w (omega arith) _ ca in
-    (e .0, c .before .before .put-end-of-initialization .ensures ∙ e .1)
+    let o : Octets m = λ j. omega (arith, at-known .shared-slice-known .given j) in
+    let w = sym (at-test .before .well-formed .ensures) ∙ not-false _ (at-test .if1 .left) in
+    let first : at-first .station-at .result ≡ stationsFrom m = omega arith in
+    let n : at-count .stations-of .result ≡ stationsIn m = at-count .stations-of .ensures .0 in
+    let ca = at-address .station-common-address .ensures .0 ∙ (λ j. commonAddressAt m (first j) (n j)) in
+    let e = start-done m (now (a .answer)) w o (omega arith) _ _ ca (at-written .end-of-initialization-asdu .ensures) in
+    record { answers = c .given .ensures ∙ e .answers; leaves = e .leaves }
 
 pub connection-started-spec : {M : Type 1} → statement M
 connection-started-spec =
     tie.close
     (tie.spec
     well-formed-requires
+    nothing-requires
     returns
+    nothing-requires-2
     returns-2
-    two-at-requires
-    two-at-requires-2
-    mul-station-common-address
-    add-station-common-address
+    station-at-requires
+    stations-of-requires
     station-common-address-requires
-    put-end-of-initialization-requires
+    end-of-initialization-asdu-requires
+    given-requires
     same-length
     returns-3)

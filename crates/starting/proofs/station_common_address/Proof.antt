@@ -4,13 +4,14 @@ use native.Mathlib.Omega.{arith}
 use mathlib.Core.Path.{_≡_, refl, sym, _∙_}
 use Prim.Native.Nat.{_+_, _*_, _≤_}
 use lib.ListN.{length}
+use Rattle.layout.specs.Layout.{stationSize}
 use Rattle.starting.specs.Starting.{commonAddressAt}
 use Rattle.starting.proofs.Laws.{address-here, address-on, address-end}
 use Rattle.starting.proofs.station_common_address.Statement.{statement}
 use Rattle.starting.proofs.station_common_address.Tie as tie
 
 abbrev Inv-loop : tie.InvT-loop
-Inv-loop m at n station₀ left₀ station left = (commonAddressAt m at n ≡ commonAddressAt m station left) × (station + 8 * left ≤ length m)
+Inv-loop m at n station₀ left₀ station left = (commonAddressAt m at n ≡ commonAddressAt m station left) × (station + stationSize * left ≤ length m)
 
 abbrev μ-loop : tie.MeasureT-loop
 μ-loop m at n station₀ left₀ station left = left
@@ -18,19 +19,16 @@ abbrev μ-loop : tie.MeasureT-loop
 loop-holds : tie.Need-loop-holds Inv-loop μ-loop
 loop-holds c = (refl, omega arith)
 
-add-two-at : tie.Need-add-two-at Inv-loop μ-loop
-add-two-at c = search needs
+held-at-requires : tie.Need-held-at-requires Inv-loop μ-loop
+held-at-requires c κs = search needs
 
 two-at-requires : tie.Need-two-at-requires Inv-loop μ-loop
 two-at-requires c κs = search needs
 
-two-at-requires-2 : tie.Need-two-at-requires-2 Inv-loop μ-loop
-two-at-requires-2 c κs = search needs
-
 returns : tie.Need-returns Inv-loop μ-loop
 returns c =
     let l = c .before .before .before .before .loop in
-    (c .two-at2 .ensures .0 ∙ sym (l .inv .0 ∙ address-here _ _ _ (omega arith) (omega arith)), omega arith)
+    (c .two-at .ensures .0 ∙ sym (l .inv .0 ∙ address-here _ _ _ (omega arith) (omega arith)), omega arith)
 
 add-station : tie.Need-add-station Inv-loop μ-loop
 add-station c = search needs
@@ -56,9 +54,8 @@ station-common-address-spec =
     Inv-loop
     μ-loop
     loop-holds
-    add-two-at
+    held-at-requires
     two-at-requires
-    two-at-requires-2
     returns
     add-station
     sub-left

@@ -10,14 +10,15 @@ use Rattle.octets.specs.Number.{two, Octets}
 use Rattle.asdu.specs.Cause.{spontaneous}
 use Rattle.model.specs.Place.{pointAt}
 use Rattle.report.specs.Single.{single}
+use Rattle.answers.specs.Process.{updateOctets}
 use Rattle.updates.specs.Updates.{toldOne}
 use Rattle.updates.proofs.Turns.{skipped-told, skipped-left, place-inside, place-told, place-left, over-none}
 use borrow.Author.Needs.{needs}
 use Rattle.updates.proofs.apply_one.Statement.{statement}
 use Rattle.updates.proofs.apply_one.Tie as tie
 
-target-of-requires : tie.Need-target-of-requires
-target-of-requires c κs = search needs
+can-apply-update-requires : tie.Need-can-apply-update-requires
+can-apply-update-requires c κs = search needs
 
 enum-known-target : tie.Need-enum-known-target
 enum-known-target c = search needs
@@ -30,16 +31,19 @@ same-length c = search needs
 
 returns : tie.Need-returns
 returns c =
-    let a = c .before .before .before .before .before .before .before .args in
+    let at-can-apply-update = c .before .before in
+    let at-slice-known = at-can-apply-update .before .before .before .before in
+    let entry = at-slice-known .before in
+    let a = entry .args in
     let m = now (a .m) in
     let us = now (a .updates) in
     let out = now (a .out) in
-    let w = c .before .before .before .before .before .before .before .pre .0 in
-    let o : Octets m = λ j. omega (arith, c .before .before .before .before .before .before .slice-known .given j) in
-    let e = sym (c .before .before .target-of .ensures) ∙ c .enum-told .given .1 in
+    let w = entry .pre .0 .0 in
+    let o : Octets m = λ j. omega (arith, at-slice-known .slice-known .given j) in
+    let e = sym (at-can-apply-update .can-apply-update .ensures) ∙ c .enum-told .given .1 in
     let t : toldOne m us (a .at) ≡ [] = skipped-told m us (a .at) o w e in
     let l : length (toldOne m us (a .at)) ≡ 0 = ap length t in
-    (omega arith, skipped-left m us (a .at) o w e, over-none out (a .o) ∙ ap (over out (a .o)) (sym t))
+    record { reach = omega arith; memory = skipped-left m us (a .at) o w e; output = over-none out (a .o) ∙ ap (over out (a .o)) (sym t) }
 
 add-kind : tie.Need-add-kind
 add-kind c = search needs
@@ -58,29 +62,39 @@ add-store c = search needs
 
 store-requires : tie.Need-store-requires
 store-requires c κs =
-    let a = c .before .before .before .before .before .before .before .before .before .before .before .args in
+    let at-target = c .before .before .before .before in
+    let at-can-apply-update = at-target .before .before in
+    let at-slice-known = at-can-apply-update .before .before .before .before in
+    let entry = at-slice-known .before in
+    let a = entry .args in
     let m = now (a .m) in
-    let o : Octets m = λ j. omega (arith, c .before .before .before .before .before .before .before .before .before .before .slice-known .given j) in
-    let g = c .before .before .before .before .target .given in
-    let i = place-inside m (now (a .updates)) (a .at) o (c .before .before .before .before .before .before .before .before .before .before .before .pre .0) (g .0 .0) (sym (c .before .before .before .before .before .before .target-of .ensures) ∙ g .1) in
+    let o : Octets m = λ j. omega (arith, at-slice-known .slice-known .given j) in
+    let g = at-target .target .given in
+    let i = place-inside m (now (a .updates)) (a .at) o (entry .pre .0 .0) (g .0 .0) (sym (at-can-apply-update .can-apply-update .ensures) ∙ g .1) in
     (omega arith, omega arith)
 
 put-single-requires : tie.Need-put-single-requires
 put-single-requires c κs =
-    let a = c .before .before .before .before .before .before .before .before .before .before .before .before .before .before .before .before .args in
+    let at-store = c .before .before .before .before in
+    let at-two-at = at-store .before .before in
+    let at-target = at-two-at .before .before .before in
+    let at-can-apply-update = at-target .before .before in
+    let at-slice-known = at-can-apply-update .before .before .before .before in
+    let entry = at-slice-known .before in
+    let a = entry .args in
     let m = now (a .m) in
     let us = now (a .updates) in
-    let o : Octets m = λ j. omega (arith, c .before .before .before .before .before .before .before .before .before .before .before .before .before .before .before .slice-known .given j) in
-    let g = c .before .before .before .before .before .before .before .before .before .target .given in
-    let e = sym (c .before .before .before .before .before .before .before .before .before .before .before .target-of .ensures) ∙ g .1 in
-    let i = place-inside m us (a .at) o (c .before .before .before .before .before .before .before .before .before .before .before .before .before .before .before .before .pre .0) (g .0 .0) e in
-    let new = c .before .before .before .before .store .last .0 in
-    let s = c .before .before .before .before .store .ensures in
-    let ca : c .before .before .before .before .before .before .two-at .result ≡ two us (a .at) = c .before .before .before .before .before .before .two-at .ensures .0 in
-    let told : single spontaneous (c .before .before .before .before .before .before .two-at .result) (pointAt new (g .0 .0)) ≡ toldOne m us (a .at) =
-    (λ j. single spontaneous (ca j) (pointAt (s j) (g .0 .0))) ∙ place-told m us (a .at) o (c .before .before .before .before .before .before .before .before .before .before .before .before .before .before .before .before .pre .0) (g .0 .0) e (c .before .before .before .before .before .before .before .before .before .before .before .before .before .before .before .before .pre .1) in
+    let o : Octets m = λ j. omega (arith, at-slice-known .slice-known .given j) in
+    let g = at-target .target .given in
+    let e = sym (at-can-apply-update .can-apply-update .ensures) ∙ g .1 in
+    let i = place-inside m us (a .at) o (entry .pre .0 .0) (g .0 .0) e in
+    let new = at-store .store .last .0 in
+    let s = at-store .store .ensures in
+    let ca : at-two-at .two-at .result ≡ two us (a .at) = at-two-at .two-at .ensures .0 in
+    let told : single spontaneous (at-two-at .two-at .result) (pointAt new (g .0 .0)) ≡ toldOne m us (a .at) =
+    (λ j. single spontaneous (ca j) (pointAt (s j) (g .0 .0))) ∙ place-told m us (a .at) o (entry .pre .0 .0) (g .0 .0) e (entry .pre .0 .1) in
     let l = ap length told in
-    let r : a .o + length (toldOne m us (a .at)) ≤ length (now (a .out)) = c .before .before .before .before .before .before .before .before .before .before .before .before .before .before .before .before .pre .2 in
+    let r : a .o + length (toldOne m us (a .at)) ≤ length (now (a .out)) = entry .pre .1 in
     (omega arith, omega arith, omega arith)
 
 same-length-2 : tie.Need-same-length-2
@@ -91,27 +105,34 @@ same-length-3 c = search needs
 
 returns-2 : tie.Need-returns-2
 returns-2 c =
-    let a = c .before .before .before .before .before .before .before .before .before .before .before .before .before .before .before .before .before .before .before .args in
+    let at-put-single = c .before .before in
+    let at-store = at-put-single .before .before .before .before .before in
+    let at-two-at = at-store .before .before in
+    let at-target = at-two-at .before .before .before in
+    let at-can-apply-update = at-target .before .before in
+    let at-slice-known = at-can-apply-update .before .before .before .before in
+    let entry = at-slice-known .before in
+    let a = entry .args in
     let m = now (a .m) in
     let us = now (a .updates) in
-    let w = c .before .before .before .before .before .before .before .before .before .before .before .before .before .before .before .before .before .before .before .pre .0 in
-    let h : a .at + 18 ≤ length us = c .before .before .before .before .before .before .before .before .before .before .before .before .before .before .before .before .before .before .before .pre .1 in
-    let o : Octets m = λ j. omega (arith, c .before .before .before .before .before .before .before .before .before .before .before .before .before .before .before .before .before .before .slice-known .given j) in
-    let g = c .before .before .before .before .before .before .before .before .before .before .before .before .target .given in
-    let e = sym (c .before .before .before .before .before .before .before .before .before .before .before .before .before .before .target-of .ensures) ∙ g .1 in
-    let p = c .before .before .put-single in
-    let new = c .before .before .before .before .before .before .before .store .last .0 in
-    let s = c .before .before .before .before .before .before .before .store .ensures in
-    let ca : c .before .before .before .before .before .before .before .before .before .two-at .result ≡ two us (a .at) = c .before .before .before .before .before .before .before .before .before .two-at .ensures .0 in
-    let told : single spontaneous (c .before .before .before .before .before .before .before .before .before .two-at .result) (pointAt new (g .0 .0)) ≡ toldOne m us (a .at) =
+    let w = entry .pre .0 .0 in
+    let h : a .at + updateOctets ≤ length us = entry .pre .0 .1 in
+    let o : Octets m = λ j. omega (arith, at-slice-known .slice-known .given j) in
+    let g = at-target .target .given in
+    let e = sym (at-can-apply-update .can-apply-update .ensures) ∙ g .1 in
+    let p = at-put-single .put-single in
+    let new = at-store .store .last .0 in
+    let s = at-store .store .ensures in
+    let ca : at-two-at .two-at .result ≡ two us (a .at) = at-two-at .two-at .ensures .0 in
+    let told : single spontaneous (at-two-at .two-at .result) (pointAt new (g .0 .0)) ≡ toldOne m us (a .at) =
     (λ j. single spontaneous (ca j) (pointAt (s j) (g .0 .0))) ∙ place-told m us (a .at) o w (g .0 .0) e h in
-    (p .ensures .0 ∙ ap (λ (x : List ℕ). a .o + length x) told, s ∙ place-left m us (a .at) o w (g .0 .0) e h, p .ensures .1 ∙ ap (over (now (a .out)) (a .o)) told)
+    record { reach = p .ensures .0 ∙ ap (λ (x : List ℕ). a .o + length x) told; memory = s ∙ place-left m us (a .at) o w (g .0 .0) e h; output = p .ensures .1 ∙ ap (over (now (a .out)) (a .o)) told }
 
 pub apply-one-spec : {M : Type 1} → statement M
 apply-one-spec =
     tie.close
     (tie.spec
-    target-of-requires
+    can-apply-update-requires
     enum-known-target
     enum-told
     same-length

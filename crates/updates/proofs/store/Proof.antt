@@ -24,8 +24,11 @@ same-length c = search needs
 returns : tie.Need-returns
 unfolding stored
 returns c =
-    let a = c .before .before .before .before .before .before .before .args in
-    c .before .before .copy-part .ensures ∙ ap (λ (n : ℕ). over (now (a .m)) (a .place + 10) (take n (drop (a .from) (now (a .updates))))) (c .before .before .before .before .point-octets .ensures .0)
+    let at-copy-part = c .before .before in
+    let at-point-octets = at-copy-part .before .before in
+    let entry = at-point-octets .before .before .before in
+    let a = entry .args in
+    at-copy-part .copy-part .ensures ∙ ap (λ (n : ℕ). over (now (a .m)) (a .place + 10) (take n (drop (a .from) (now (a .updates))))) (at-point-octets .point-octets .ensures .0)
 
 pub store-spec : {M : Type 1} → statement M
 store-spec =

@@ -4,7 +4,8 @@ use Prim.Native.Nat.{_+_, _*_, _-_, _≤_}
 use native.Mathlib.Omega.{arith}
 use denote.Ref.{now}
 use lib.ListN.{length}
-use Rattle.updates.specs.Updates.{toldOne}
+use Rattle.answers.specs.Process.{updateOctets}
+use Rattle.updates.specs.Updates.{mostTold, toldOne}
 use Rattle.updates.proofs.Turns.{sizeLeft, size-on, size-end, size-all}
 use borrow.Author.Needs.{needs}
 use Rattle.updates.proofs.told_octets.Statement.{statement}
@@ -12,7 +13,7 @@ use Rattle.updates.proofs.told_octets.Tie as tie
 
 abbrev Inv-loop : tie.InvT-loop
 Inv-loop m updates n sum₀ at₀ left₀ sum at left =
-    (sizeLeft m updates 0 n ≡ sum + sizeLeft m updates at left) × (at + 18 * left ≤ length updates) × (left ≤ n) × (sum ≤ 21 * (n - left))
+    (sizeLeft m updates 0 n ≡ sum + sizeLeft m updates at left) × (at + updateOctets * left ≤ length updates) × (left ≤ n) × (sum ≤ mostTold * (n - left))
 
 abbrev μ-loop : tie.MeasureT-loop
 μ-loop m updates n sum₀ at₀ left₀ sum at left = left
@@ -21,7 +22,9 @@ loop-holds : tie.Need-loop-holds Inv-loop μ-loop
 loop-holds c = (omega arith, omega arith, omega arith, omega arith)
 
 told-of-requires : tie.Need-told-of-requires Inv-loop μ-loop
-told-of-requires c κs = (c .before .before .before .before .pre .0, omega arith)
+told-of-requires c κs =
+    let entry = c .before .before .before .before in
+    (entry .pre .0, omega arith)
 
 add-sum : tie.Need-add-sum Inv-loop μ-loop
 add-sum c = omega arith
@@ -37,15 +40,18 @@ loop-less c = search needs
 
 loop-again : tie.Need-loop-again Inv-loop μ-loop
 loop-again c =
-    let a = c .before .before .before .before .before .args in
-    let l = c .before .before .loop in
+    let at-loop = c .before .before in
+    let entry = at-loop .before .before .before in
+    let a = entry .args in
+    let l = at-loop .loop in
     let s = size-on (now (a .m)) (now (a .updates)) (l .at) (l .left) (omega arith) in
     let r : c .told-of .result ≡ length (toldOne (now (a .m)) (now (a .updates)) (l .at)) = c .told-of .ensures .0 in
     (omega arith, omega arith, omega arith, omega arith)
 
 returns : tie.Need-returns Inv-loop μ-loop
 returns c =
-    let a = c .before .before .before .before .args in
+    let entry = c .before .before .before .before in
+    let a = entry .args in
     let l = c .before .loop in
     let e = size-end (now (a .m)) (now (a .updates)) (l .at) (l .left) (omega arith) in
     let s = size-all (now (a .m)) (now (a .updates)) (a .n) in

@@ -6,13 +6,14 @@ use denote.Ref.{now}
 use lib.ListN.{length, getD}
 use Rattle.limits.specs.Size.{pointOctets}
 use Rattle.octets.specs.Number.{Octets}
+use Rattle.answers.specs.Process.{updateTypeOffset}
 use Rattle.updates.proofs.Turns.{skipped-told, place-length}
 use borrow.Author.Needs.{needs}
 use Rattle.updates.proofs.told_of.Statement.{statement}
 use Rattle.updates.proofs.told_of.Tie as tie
 
-target-of-requires : tie.Need-target-of-requires
-target-of-requires c κs = search needs
+can-apply-update-requires : tie.Need-can-apply-update-requires
+can-apply-update-requires c κs = search needs
 
 enum-told : tie.Need-enum-told
 enum-told c = search needs
@@ -22,10 +23,13 @@ enum-told-2 c = search needs
 
 returns : tie.Need-returns
 returns c =
-    let a = c .before .before .before .before .before .args in
+    let at-can-apply-update = c .before .before in
+    let at-shared-slice-known = at-can-apply-update .before .before in
+    let entry = at-shared-slice-known .before in
+    let a = entry .args in
     let m = now (a .m) in
-    let o : Octets m = λ j. omega (arith, c .before .before .before .before .shared-slice-known .given j) in
-    (sym (ap length (skipped-told m (now (a .updates)) (a .at) o (c .before .before .before .before .before .pre .0) (sym (c .before .before .target-of .ensures) ∙ c .enum-told2 .given .1))), omega arith)
+    let o : Octets m = λ j. omega (arith, at-shared-slice-known .shared-slice-known .given j) in
+    (sym (ap length (skipped-told m (now (a .updates)) (a .at) o (entry .pre .0) (sym (at-can-apply-update .can-apply-update .ensures) ∙ c .enum-told2 .given .1))), omega arith)
 
 add-result : tie.Need-add-result
 add-result c = search needs
@@ -44,19 +48,23 @@ add-result-2 c = search needs
 
 returns-2 : tie.Need-returns-2
 returns-2 c =
-    let a = c .before .before .before .before .before .before .before .args in
+    let at-enum-told = c .before .before in
+    let at-can-apply-update = at-enum-told .before .before in
+    let at-shared-slice-known = at-can-apply-update .before .before in
+    let entry = at-shared-slice-known .before in
+    let a = entry .args in
     let m = now (a .m) in
     let us = now (a .updates) in
-    let o : Octets m = λ j. omega (arith, c .before .before .before .before .before .before .shared-slice-known .given j) in
-    let l = place-length m us (a .at) o (c .before .before .before .before .before .before .before .pre .0) _ (sym (c .before .before .before .before .target-of .ensures) ∙ c .before .before .enum-told .given .1) in
-    let n : c .point-octets .result ≡ pointOctets (getD us (a .at + 5) 0) = c .point-octets .ensures .0 in
+    let o : Octets m = λ j. omega (arith, at-shared-slice-known .shared-slice-known .given j) in
+    let l = place-length m us (a .at) o (entry .pre .0) _ (sym (at-can-apply-update .can-apply-update .ensures) ∙ at-enum-told .enum-told .given .1) in
+    let n : c .point-octets .result ≡ pointOctets (getD us (a .at + updateTypeOffset) 0) = c .point-octets .ensures .0 in
     (omega arith, omega arith)
 
 pub told-of-spec : {M : Type 1} → statement M
 told-of-spec =
     tie.close
     (tie.spec
-    target-of-requires
+    can-apply-update-requires
     enum-told
     enum-told-2
     returns

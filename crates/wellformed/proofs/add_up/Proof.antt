@@ -2,7 +2,8 @@ use Rattle.limits.proofs.Shares.{unmet-is}
 use Rattle.limits.specs.declared.share.Share.{Share}
 use Rattle.wellformed.proofs.Turns.{sum-on, sum-end}
 use Rattle.octets.specs.Number.{two}
-use Rattle.table.specs.Memory.{sumAt, reservedAt, heldAt, unmetAt}
+use Rattle.layout.specs.Layout.{reservationAt, heldAt}
+use Rattle.table.specs.Memory.{sumAt, unmetAt}
 use denote.Ref.{now}
 use lib.ListN.{length}
 use Prim.Native.Nat.{_+_, _*_, _-_, _≤_}
@@ -14,7 +15,7 @@ use Rattle.wellformed.proofs.add_up.Tie as tie
 
 abbrev Inv-loop : tie.InvT-loop
 Inv-loop m at n station₀ left₀ reserved₀ held₀ unmet₀ station left reserved held unmet =
-    (sumAt reservedAt m at n ≡ reserved + sumAt reservedAt m station left) × (sumAt heldAt m at n ≡ held + sumAt heldAt m station left) × (sumAt unmetAt m at n ≡ unmet + sumAt unmetAt m station left)
+    (sumAt reservationAt m at n ≡ reserved + sumAt reservationAt m station left) × (sumAt heldAt m at n ≡ held + sumAt heldAt m station left) × (sumAt unmetAt m at n ≡ unmet + sumAt unmetAt m station left)
     × (station + 8 * left ≤ length m) × (left ≤ n) × (reserved ≤ 65536 * (n - left)) × (held ≤ 65536 * (n - left)) × (unmet ≤ 65536 * (n - left))
 
 abbrev μ-loop : tie.MeasureT-loop
@@ -58,7 +59,7 @@ loop-again c =
     let r : s .reservation ≡ two m (l .station + 2) = ap (λ (x : Share). x .reservation) e in
     let h : s .held ≡ two m (l .station + 6) = ap (λ (x : Share). x .held) e in
     let u = unmet-is s in
-    let a = sum-on m (l .station) (l .left) (omega arith) reservedAt in
+    let a = sum-on m (l .station) (l .left) (omega arith) reservationAt in
     let b = sum-on m (l .station) (l .left) (omega arith) heldAt in
     let d = sum-on m (l .station) (l .left) (omega arith) unmetAt in
     (omega arith, omega arith, omega arith, omega arith, omega arith, omega arith, omega arith, omega arith)
@@ -67,7 +68,7 @@ returns : tie.Need-returns Inv-loop μ-loop
 returns c =
     let m = now (c .before .before .before .args .m) in
     let l = c .before .loop in
-    let a = sum-end reservedAt m (l .station) (l .left) (omega arith) in
+    let a = sum-end reservationAt m (l .station) (l .left) (omega arith) in
     let b = sum-end heldAt m (l .station) (l .left) (omega arith) in
     let d = sum-end unmetAt m (l .station) (l .left) (omega arith) in
     (omega arith, omega arith, omega arith)

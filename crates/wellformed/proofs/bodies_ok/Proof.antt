@@ -5,7 +5,8 @@ use lib.ListN.{length}
 use borrow.Author.Tests.{not-true, not-false}
 use Rattle.octets.specs.Number.{two}
 use Rattle.model.specs.Place.{placesOk}
-use Rattle.table.specs.Memory.{sumAt, heldAt, bodiesAt}
+use Rattle.layout.specs.Layout.{heldAt}
+use Rattle.table.specs.Memory.{sumAt, bodiesAt}
 use Rattle.wellformed.proofs.Turns.{sum-on, bodies-on, bodies-off, bodies-end}
 use borrow.Author.Needs.{needs}
 use native.Mathlib.Omega.{arith}
@@ -21,14 +22,11 @@ abbrev μ-loop : tie.MeasureT-loop
 loop-holds : tie.Need-loop-holds Inv-loop μ-loop
 loop-holds c = (refl, omega arith, omega arith)
 
-two-at-requires : tie.Need-two-at-requires Inv-loop μ-loop
-two-at-requires c κs = search needs
+ca-at-requires : tie.Need-ca-at-requires Inv-loop μ-loop
+ca-at-requires c κs = search needs
 
-add-two-at : tie.Need-add-two-at Inv-loop μ-loop
-add-two-at c = search needs
-
-two-at-requires-2 : tie.Need-two-at-requires-2 Inv-loop μ-loop
-two-at-requires-2 c κs = search needs
+held-at-requires : tie.Need-held-at-requires Inv-loop μ-loop
+held-at-requires c κs = search needs
 
 places-ok-requires : tie.Need-places-ok-requires Inv-loop μ-loop
 places-ok-requires c κs =
@@ -42,8 +40,8 @@ returns c =
     let m = now (c .before .before .before .before .before .before .before .args .m) in
     let l = c .before .before .before .before .before .loop in
     let s = sum-on m (l .station) (l .left) (omega arith) heldAt in
-    let ca = c .before .before .before .two-at .ensures .0 in
-    let h = c .before .before .two-at2 .ensures .0 in
+    let ca = c .before .before .before .ca-at .ensures .0 in
+    let h = c .before .before .held-at .ensures .0 in
     let e : c .before .places-ok .result ≡ placesOk m (l .place) (two m (l .station)) 0 (two m (l .station + 6)) =
     c .before .places-ok .ensures ∙ (λ j. placesOk m (l .place) (ca j) 0 (h j)) in
     sym (l .inv .0 ∙ bodies-off m (l .station) (l .left) (omega arith) (l .place) (sym e ∙ not-true _ (c .if1 .taken)))
@@ -76,8 +74,8 @@ loop-again c =
     let m = now (c .before .before .before .before .before .before .before .args .m) in
     let l = c .before .before .before .before .before .loop in
     let s = sum-on m (l .station) (l .left) (omega arith) heldAt in
-    let ca = c .before .before .before .two-at .ensures .0 in
-    let h = c .before .before .two-at2 .ensures .0 in
+    let ca = c .before .before .before .ca-at .ensures .0 in
+    let h = c .before .before .held-at .ensures .0 in
     let e : c .before .places-ok .result ≡ placesOk m (l .place) (two m (l .station)) 0 (two m (l .station + 6)) =
     c .before .places-ok .ensures ∙ (λ j. placesOk m (l .place) (ca j) 0 (h j)) in
     (l .inv .0 ∙ bodies-on m (l .station) (l .left) (omega arith) (l .place) (sym e ∙ not-false _ (c .if1 .left)) ∙ ap (λ (x : ℕ). bodiesAt m (l .place + 48 * x) (l .station + 8) (l .left - 1)) (sym h), omega arith, omega arith)
@@ -92,9 +90,8 @@ bodies-ok-spec =
     Inv-loop
     μ-loop
     loop-holds
-    two-at-requires
-    add-two-at
-    two-at-requires-2
+    ca-at-requires
+    held-at-requires
     places-ok-requires
     returns
     mul-place

@@ -1,7 +1,8 @@
 use borrow.Author.Needs.{needs}
 use native.Mathlib.Omega.{arith}
 use Rattle.limits.specs.Test.{_&_}
-use Rattle.table.specs.Memory.{sumAt, heldAt, sharesAt}
+use Rattle.layout.specs.Layout.{heldAt}
+use Rattle.table.specs.Memory.{sumAt, sharesAt}
 use Rattle.table.specs.Table.{sharesOk}
 use borrow.Author.Tests.{eq-eqb, ne-eqb, not-true, not-false}
 use denote.Ref.{now}

@@ -26,8 +26,8 @@ station-ok-requires c κs = search needs
 returns : tie.Need-returns Inv-loop μ-loop
 returns c = sym (c .before .before .before .loop .inv .0 ∙ plan-off _ _ _ (omega arith) _ _ (sym (c .before .station-ok .ensures) ∙ not-true _ (c .if1 .taken)))
 
-two-at-requires : tie.Need-two-at-requires Inv-loop μ-loop
-two-at-requires c κs = search needs
+ca-at-requires : tie.Need-ca-at-requires Inv-loop μ-loop
+ca-at-requires c κs = search needs
 
 add-low : tie.Need-add-low Inv-loop μ-loop
 add-low c = search needs
@@ -43,7 +43,7 @@ loop-less c = search needs
 
 loop-again : tie.Need-loop-again Inv-loop μ-loop
 loop-again c =
-    let e : c .two-at .result ≡ two (now (c .before .before .before .before .before .before .args .m)) (c .before .before .before .before .loop .station) = omega arith in
+    let e : c .ca-at .result ≡ two (now (c .before .before .before .before .before .before .args .m)) (c .before .before .before .before .loop .station) = omega arith in
     (c .before .before .before .before .loop .inv .0 ∙ plan-on _ _ _ (omega arith) _ _ (sym (c .before .before .station-ok .ensures) ∙ not-false _ (c .before .if1 .left)) ∙ rw e refl, omega arith)
 
 returns-2 : tie.Need-returns-2 Inv-loop μ-loop
@@ -58,7 +58,7 @@ plan-ok-spec =
     loop-holds
     station-ok-requires
     returns
-    two-at-requires
+    ca-at-requires
     add-low
     add-station
     sub-left

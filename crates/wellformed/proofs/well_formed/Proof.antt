@@ -5,7 +5,8 @@ use denote.Ref.{now}
 use borrow.Author.Tests.{not-true, not-false}
 use Rattle.limits.specs.Test.{_&_}
 use Rattle.octets.specs.Number.{two}
-use Rattle.table.specs.Memory.{sumAt, heldAt, headAt, sharesAt, wellFormed}
+use Rattle.layout.specs.Layout.{heldAt}
+use Rattle.table.specs.Memory.{sumAt, headAt, sharesAt, wellFormed}
 use Rattle.table.proofs.Parse.{head-is, shares-is}
 use Rattle.wellformed.specs.Station.{placesAt}
 use borrow.Author.Needs.{needs}
@@ -20,20 +21,20 @@ returns : tie.Need-returns
 unfolding wellFormed _&_
 returns c = simp (sym (c .before .head-ok .ensures) ∙ not-true _ (c .if1 .taken))
 
-two-at-requires : tie.Need-two-at-requires
-two-at-requires c κs =
+capacity-of-requires : tie.Need-capacity-of-requires
+capacity-of-requires c κs =
     let m = now (c .before .before .before .args .m) in
     let t = head-is m (sym (c .before .head-ok .ensures) ∙ not-false _ (c .if1 .left)) in
     omega arith
 
-two-at-requires-2 : tie.Need-two-at-requires-2
-two-at-requires-2 c κs =
+stations-of-requires : tie.Need-stations-of-requires
+stations-of-requires c κs =
     let m = now (c .before .before .before .before .args .m) in
     let t = head-is m (sym (c .before .before .head-ok .ensures) ∙ not-false _ (c .before .if1 .left)) in
     omega arith
 
-two-at-requires-3 : tie.Need-two-at-requires-3
-two-at-requires-3 c κs =
+points-of-requires : tie.Need-points-of-requires
+points-of-requires c κs =
     let m = now (c .before .before .before .before .before .args .m) in
     let t = head-is m (sym (c .before .before .before .head-ok .ensures) ∙ not-false _ (c .before .before .if1 .left)) in
     omega arith
@@ -55,9 +56,9 @@ unfolding wellFormed _&_
 returns-2 c =
     let m = now (c .before .before .before .before .before .before .before .before .args .m) in
     let h : headAt m ≡ true = sym (c .before .before .before .before .before .before .head-ok .ensures) ∙ not-false _ (c .before .before .before .before .before .if1 .left) in
-    let k = c .before .before .before .before .two-at .ensures .0 in
-    let s = c .before .before .before .two-at2 .ensures .0 in
-    let n = c .before .before .two-at3 .ensures .0 in
+    let k = c .before .before .before .before .capacity-of .ensures .0 in
+    let s = c .before .before .before .stations-of .ensures .0 in
+    let n = c .before .before .points-of .ensures .0 in
     let e : c .before .plan-and-shares .result ≡ sharesAt m (two m 4) (64 + 48 * two m 4) (two m 6) (two m 8) =
     c .before .plan-and-shares .ensures ∙ (λ j. sharesAt m (k j) (64 + 48 * k j) (s j) (n j)) in
     simp (h, sym e ∙ not-true _ (c .if2 .taken))
@@ -66,9 +67,9 @@ places-and-unused-requires : tie.Need-places-and-unused-requires
 places-and-unused-requires c κs =
     let m = now (c .before .before .before .before .before .before .before .before .args .m) in
     let h : headAt m ≡ true = sym (c .before .before .before .before .before .before .head-ok .ensures) ∙ not-false _ (c .before .before .before .before .before .if1 .left) in
-    let k = c .before .before .before .before .two-at .ensures .0 in
-    let s = c .before .before .before .two-at2 .ensures .0 in
-    let n = c .before .before .two-at3 .ensures .0 in
+    let k = c .before .before .before .before .capacity-of .ensures .0 in
+    let s = c .before .before .before .stations-of .ensures .0 in
+    let n = c .before .before .points-of .ensures .0 in
     let e : c .before .plan-and-shares .result ≡ sharesAt m (two m 4) (64 + 48 * two m 4) (two m 6) (two m 8) =
     c .before .plan-and-shares .ensures ∙ (λ j. sharesAt m (k j) (64 + 48 * k j) (s j) (n j)) in
     let t = head-is m h in
@@ -80,9 +81,9 @@ unfolding wellFormed placesAt _&_
 returns-3 c =
     let m = now (c .before .before .before .before .before .before .before .before .before .args .m) in
     let h : headAt m ≡ true = sym (c .before .before .before .before .before .before .before .head-ok .ensures) ∙ not-false _ (c .before .before .before .before .before .before .if1 .left) in
-    let k = c .before .before .before .before .before .two-at .ensures .0 in
-    let s = c .before .before .before .before .two-at2 .ensures .0 in
-    let n = c .before .before .before .two-at3 .ensures .0 in
+    let k = c .before .before .before .before .before .capacity-of .ensures .0 in
+    let s = c .before .before .before .before .stations-of .ensures .0 in
+    let n = c .before .before .before .points-of .ensures .0 in
     let e : c .before .before .plan-and-shares .result ≡ sharesAt m (two m 4) (64 + 48 * two m 4) (two m 6) (two m 8) =
     c .before .before .plan-and-shares .ensures ∙ (λ j. sharesAt m (k j) (64 + 48 * k j) (s j) (n j)) in
     simp (h, sym e ∙ not-false _ (c .before .if2 .left)) (c .places-and-unused .ensures ∙ (λ j. placesAt m (k j) (s j) (n j)))
@@ -93,9 +94,9 @@ well-formed-spec =
     (tie.spec
     head-ok-requires
     returns
-    two-at-requires
-    two-at-requires-2
-    two-at-requires-3
+    capacity-of-requires
+    stations-of-requires
+    points-of-requires
     mul-plan-and-shares
     add-plan-and-shares
     plan-and-shares-requires

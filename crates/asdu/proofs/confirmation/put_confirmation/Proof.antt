@@ -2,7 +2,10 @@
 use borrow.Author.Needs.{needs}
 use mathlib.Core.Path.{_≡_}
 use Prim.Native.Nat.{_+_, _-_}
-use Rattle.asdu.specs.Confirmation.{confirmation}
+use lib.ListN.{length-take, length-drop}
+use denote.Ref.{now}
+use Rattle.octets.specs.Number.{Octets}
+use Rattle.asdu.proofs.Lengths.{confirmation-octets}
 use native.Mathlib.Omega.{arith}
 use Rattle.asdu.proofs.confirmation.put_confirmation.Statement.{statement}
 use Rattle.asdu.proofs.confirmation.put_confirmation.Tie as tie
@@ -23,21 +26,22 @@ part-put-reply-end : tie.Need-part-put-reply-end
 part-put-reply-end c = search needs
 
 put-reply-requires : tie.Need-put-reply-requires
-unfolding confirmation
 put-reply-requires c κs =
-    let a = c .before .before .before .before .before .args in
+    let start = c .before .before .before .before .before in
+    let a = start .args in
     let n : 6 + (3 + a .command .element) - 6 ≡ 3 + a .command .element = omega arith in
-    (c .before .before .before .before .before .pre .0, rw n (c .before .before .before .before .before .pre .2))
+    (start .pre .0, rw n (simp (length-take, length-drop) (omega arith)))
 
 same-length : tie.Need-same-length
 same-length c = search needs
 
 returns : tie.Need-returns
-unfolding confirmation
 returns c =
+    let known = c .before .before .before .before .before .before .shared-slice-known in
     let a = c .before .before .before .before .before .before .before .before .args in
     let n : 6 + (3 + a .command .element) - 6 ≡ 3 + a .command .element = omega arith in
-    rw n at (c .before .before .put-reply .ensures)
+    let o : Octets (now (a .asdu)) = λ i. omega (arith, known .given i) in
+    rw (confirmation-octets (a .command) (now (a .asdu)) (a .cause) (a .negative) o (omega arith)) (rw n at (c .before .before .put-reply .ensures))
 
 pub put-confirmation-spec : {M : Type 1} → statement M
 put-confirmation-spec =

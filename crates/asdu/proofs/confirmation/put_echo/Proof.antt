@@ -1,7 +1,10 @@
 -- The part that is lent is all octets after the command's own header.
 use borrow.Author.Needs.{needs}
 use denote.Ref.{now}
-use Rattle.asdu.specs.Confirmation.{echo}
+use native.Mathlib.Omega.{arith}
+use lib.ListN.{length-drop}
+use Rattle.octets.specs.Number.{Octets}
+use Rattle.asdu.proofs.Lengths.{echo-octets}
 use Rattle.asdu.proofs.Laws.{lent-rest}
 use Rattle.asdu.proofs.confirmation.put_echo.Statement.{statement}
 use Rattle.asdu.proofs.confirmation.put_echo.Tie as tie
@@ -16,19 +19,22 @@ part-put-reply-end : tie.Need-part-put-reply-end
 part-put-reply-end c = search needs
 
 put-reply-requires : tie.Need-put-reply-requires
-unfolding echo
 put-reply-requires c κs =
-    let n = lent-rest (now (c .before .before .before .before .args .asdu)) 6 in
-    (c .before .before .before .before .pre .0, rw n (c .before .before .before .before .pre .2))
+    let start = c .before .before .before .before in
+    let n = lent-rest (now (start .args .asdu)) 6 in
+    (start .pre .0, rw n (simp length-drop (omega arith)))
 
 same-length : tie.Need-same-length
 same-length c = search needs
 
 returns : tie.Need-returns
-unfolding echo
 returns c =
-    let n = lent-rest (now (c .before .before .before .before .before .before .before .args .asdu)) 6 in
-    rw n at (c .before .before .put-reply .ensures)
+    let known = c .before .before .before .before .before .shared-slice-known in
+    let start = c .before .before .before .before .before .before .before in
+    let a = start .args in
+    let n = lent-rest (now (a .asdu)) 6 in
+    let o : Octets (now (a .asdu)) = λ i. omega (arith, known .given i) in
+    rw (echo-octets (a .command) (now (a .asdu)) (a .cause) (a .negative) o (start .pre .1)) (rw n at (c .before .before .put-reply .ensures))
 
 pub put-echo-spec : {M : Type 1} → statement M
 put-echo-spec =

@@ -4,24 +4,17 @@ use mathlib.Core.Path.{_≡_, sym, _∙_}
 use denote.Ref.{now}
 use Rattle.octets.specs.Over.{over}
 use Rattle.octets.proofs.Laws.{over-over}
-use Rattle.asdu.specs.Header.{header, asdu}
-use Rattle.asdu.proofs.Laws.{length-header, length-asdu}
+use Rattle.asdu.specs.Header.{header}
+use Rattle.asdu.proofs.Laws.{length-header, length-after}
 use native.Mathlib.Omega.{arith}
 use Rattle.asdu.proofs.header.put_asdu.Statement.{statement}
 use Rattle.asdu.proofs.header.put_asdu.Tie as tie
 
 put-header-requires : tie.Need-put-header-requires
-put-header-requires c κs =
-    let a = c .before .before .before .args in
-    let n = length-asdu (a .h) (now (a .objects)) in
-    let k = length-header (a .h) in
-    (search needs, omega arith)
+put-header-requires c κs = (search needs, omega arith)
 
 copy-in-requires : tie.Need-copy-in-requires
-copy-in-requires c κs =
-    let a = c .before .before .before .before .before .before .before .args in
-    let n = length-asdu (a .h) (now (a .objects)) in
-    omega arith
+copy-in-requires c κs = search needs
 
 add-result : tie.Need-add-result
 add-result c = search needs
@@ -30,11 +23,10 @@ same-length : tie.Need-same-length
 same-length c = search needs
 
 returns : tie.Need-returns
-unfolding asdu
 returns c =
     let a = c .before .before .before .before .before .before .before .before .before .before .args in
     let k = length-header (a .h) in
-    let n = length-asdu (a .h) (now (a .objects)) in
+    let n = length-after (a .h) (now (a .objects)) in
     let e : c .before .before .copy-in .last .1 .0 ≡ over (over (now (a .out)) 0 (header (a .h))) 6 (now (a .objects)) = cc in
     (sym n, e ∙ over-over (now (a .out)) (header (a .h)) (now (a .objects)) 0 6 (omega arith) (omega arith))
 

@@ -1,6 +1,6 @@
 -- A turn fills in the two limits of one type more; the counters' limits come last.
-use mathlib.Core.Path.{_≡_, refl, sym, ap, _∙_}
-use Prim.Native.Nat.{ℕ, _+_, _*_, _-_, _≤_, _<_}
+use mathlib.Core.Path.{_≡_, ap, _∙_}
+use Prim.Native.Nat.{ℕ, _-_, _≤_}
 use mathlib.Core.List.{List}
 use lib.ListN.{set}
 use Rattle.limits.specs.Size.{pointOctets, valuesFrom}
@@ -78,26 +78,8 @@ loop-again c =
     let l = c .before .before .loop in
     (omega arith, filled-turn (l .limits) (l .kind) (c .wide .result) (l .inv .1) (omega arith) e)
 
-mul-limits-5 : tie.Need-mul-limits-5 Inv-loop μ-loop
-mul-limits-5 c = search needs
-
-add-limits-2 : tie.Need-add-limits-2 Inv-loop μ-loop
-add-limits-2 c = search needs
-
-mul-limits-6 : tie.Need-mul-limits-6 Inv-loop μ-loop
-mul-limits-6 c = search needs
-
 array-write-limits-3 : tie.Need-array-write-limits-3 Inv-loop μ-loop
 array-write-limits-3 c = search needs
-
-mul-limits-7 : tie.Need-mul-limits-7 Inv-loop μ-loop
-mul-limits-7 c = search needs
-
-add-limits-3 : tie.Need-add-limits-3 Inv-loop μ-loop
-add-limits-3 c = search needs
-
-mul-limits-8 : tie.Need-mul-limits-8 Inv-loop μ-loop
-mul-limits-8 c = search needs
 
 array-write-limits-4 : tie.Need-array-write-limits-4 Inv-loop μ-loop
 array-write-limits-4 c = search needs
@@ -130,12 +112,6 @@ place-limits-spec =
     add-kind
     loop-less
     loop-again
-    mul-limits-5
-    add-limits-2
-    mul-limits-6
     array-write-limits-3
-    mul-limits-7
-    add-limits-3
-    mul-limits-8
     array-write-limits-4
     returns)

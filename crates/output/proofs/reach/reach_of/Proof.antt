@@ -9,20 +9,20 @@ use Rattle.limits.specs.Test.{pick}
 use Rattle.asdu.specs.Header.{globalAddress}
 use Rattle.octets.specs.Number.{two}
 use Rattle.seats.specs.Seats.{seatAt}
-use Rattle.output.specs.declared.reach.Reach.{Reach}
+use Rattle.report.specs.declared.Reach.{Reach}
 use Rattle.output.specs.Reach.{seatReach, reachOf}
 use Rattle.output.proofs.reach.reach_of.Statement.{statement}
 use Rattle.output.proofs.reach.reach_of.Tie as tie
 
-two-at-requires : tie.Need-two-at-requires
-two-at-requires c κs = search needs
+points-of-requires : tie.Need-points-of-requires
+points-of-requires c κs = search needs
 
 returns : tie.Need-returns
 unfolding reachOf
 returns c =
     let a = c .before .before .before .args in
     let t = eq-eqb (a .ca) globalAddress (c .before .if1 .taken) in
-    ap (λ (n : ℕ). record { base = 64; n = n; every = true }) (c .two-at .ensures .0)
+    ap (λ (n : ℕ). record { base = 64; n = n; every = true }) (c .points-of .ensures .0)
     ∙ ap (λ (b : Bool). pick {A = Reach} b (record { base = 64; n = two (now (a .m)) 8; every = true }) (seatReach (seatAt (now (a .m)) (a .ca)))) (sym t)
 
 wide16-requires : tie.Need-wide16-requires
@@ -46,7 +46,7 @@ pub reach-of-spec : {M : Type 1} → statement M
 reach-of-spec =
     tie.close
     (tie.spec
-    two-at-requires
+    points-of-requires
     returns
     wide16-requires
     seat-at-requires

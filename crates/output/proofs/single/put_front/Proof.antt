@@ -12,7 +12,7 @@ use Rattle.asdu.specs.declared.header.Header.{Header}
 use Rattle.asdu.specs.Header.{header}
 use Rattle.asdu.proofs.Laws.{length-header}
 use Rattle.report.specs.Report.{dataHeader}
-use Rattle.chains.specs.Follow.{objectAt}
+use Rattle.chains.specs.Follow.{placeObject}
 use Rattle.output.proofs.Alone.{single-over, single-long}
 use Rattle.output.proofs.single.put_front.Statement.{statement}
 use Rattle.output.proofs.single.put_front.Tie as tie
@@ -72,7 +72,7 @@ returns c =
     let w : g .last .0 ≡ over (now (a .out)) 0 (header (dataHeader (getD (now (a .m)) (a .at) 0) 1 (a .cause) (a .ca))) = g .ensures .1 ∙ ap (λ (x : Header). over (now (a .out)) 0 (header x)) (d .ensures) in
     let o : Octets (now (a .m)) = λ i. omega (arith, c .before .before .before .before .before .before .before .before .before .before .before .shared-slice-known .given i) in (
       omega (arith, g .ensures .0, p .ensures .0),
-      c .before .before .put-object .ensures ∙ ap (λ (x : List ℕ). over x (g .result) (objectAt (p .result) (now (a .m)) (a .at))) w
+      c .before .before .put-object .ensures ∙ ap (λ (x : List ℕ). over x (g .result) (placeObject (p .result) (now (a .m)) (a .at))) w
           ∙ single-over (now (a .m)) (now (a .out)) (a .at) (a .cause) (a .ca) (p .result) (g .result) o (omega arith) (p .ensures .0) eo (omega arith),
     )
 

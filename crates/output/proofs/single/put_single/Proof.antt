@@ -4,6 +4,7 @@ use native.Mathlib.Omega.{arith}
 use Prim.Native.Nat.{_-_}
 use denote.Ref.{now}
 use Rattle.octets.proofs.Laws.{lent-over}
+use Rattle.asdu.specs.Header.{asduOctets}
 use Rattle.model.specs.Place.{pointAt}
 use Rattle.report.specs.Single.{single}
 use Rattle.output.proofs.single.put_single.Statement.{statement}
@@ -31,7 +32,7 @@ returns : tie.Need-returns
 returns c =
     let a = c .before .before .before .before .before .before .args in
     let p = c .before .before .put-front in
-    (omega (arith, p .ensures .0), rw (p .ensures .1) (lent-over (now (a .out)) (single (a .cause) (a .ca) (pointAt (now (a .m)) (a .at))) (a .o) (omega arith)))
+    (omega (arith, p .ensures .0), rw (p .ensures .1) (lent-over (now (a .out)) (asduOctets (single (a .cause) (a .ca) (pointAt (now (a .m)) (a .at)))) (a .o) (omega arith)))
 
 pub put-single-spec : {M : Type 1} → statement M
 put-single-spec =

@@ -1,8 +1,0 @@
-// What a program needs that replays a script of calls: reading the script, setting lent memory, a checksum over it, and
-// the lines to print. A script's form is described in reference/script.py, which makes the scripts and what to expect.
-// No public function here requires anything, so a program over them is a plain list of calls.
-pub mod line;
-pub mod memory;
-pub mod prepare;
-pub mod script;
-pub mod series;
