@@ -32,7 +32,7 @@ use Rattle.insert.proofs.Entry.{admitted-room}
 use Rattle.registry.specs.Effect.{firstFault}
 use Rattle.registry.specs.Registry.{isPlanned, isRegistered, roomFault, registeredFault, requestOutcome, registering}
 use Rattle.registry.proofs.Requests.{admitted-is}
-use Rattle.replies.specs.Replies.{Replies, plainReply}
+use Rattle.replies.specs.Replies.{Replies, placeless}
 use Rattle.replies.proofs.Ways.{refused-by, done-by}
 use Rattle.actor.specs.Actor.{roomAt, spotFault, seatFault, offsetOf}
 use Rattle.actor.proofs.Rooms.{room-law}
@@ -61,7 +61,7 @@ not-done o (station e) = ap isDone e
 
 module _ (m : List ℕ) (o : Octets m) (w : wellFormed m ≡ true) (q : Request) where
   -- The plan has no such station: 11 or 12.
-  pub register-absent : seatAt m (q .ca) ≡ NotPlanned → Replies (registering q) m (plainReply (ownFault false q)) m
+  pub register-absent : seatAt m (q .ca) ≡ NotPlanned → Replies (registering q) m (placeless (ownFault false q)) m
   unfolding registering requestOutcome isPlanned
   register-absent e =
       let s : stationOf (q .ca) (tableOf m .stations) ≡ none = absent-law m (q .ca) e in
@@ -98,12 +98,12 @@ module _ (m : List ℕ) (o : Octets m) (w : wellFormed m ≡ true) (q : Request)
         ∙ first-first (ownFault true q) (spotFault (findAt m first h (q .ioa))) (roomAt m i)
 
     -- Refused by its own tests: 11, 13 to 15, 17.
-    pub register-own : isDone (seatFault q (findAt m first h (q .ioa))) ≡ false → Replies (registering q) m (plainReply (seatFault q (findAt m first h (q .ioa)))) m
+    pub register-own : isDone (seatFault q (findAt m first h (q .ioa))) ≡ false → Replies (registering q) m (placeless (seatFault q (findAt m first h (q .ioa)))) m
     unfolding registering
     register-own d = refused-by (registering q) m w _ (outcome-law ∙ simp d) refl d
 
     -- Refused for room: 19, 20.
-    pub register-room : isDone (seatFault q (findAt m first h (q .ioa))) ≡ true → isDone (roomAt m i) ≡ false → Replies (registering q) m (plainReply (roomAt m i)) m
+    pub register-room : isDone (seatFault q (findAt m first h (q .ioa))) ≡ true → isDone (roomAt m i) ≡ false → Replies (registering q) m (placeless (roomAt m i)) m
     unfolding registering
     register-room d r = refused-by (registering q) m w _ (outcome-law ∙ simp d) refl r
 
@@ -145,7 +145,7 @@ module _ (m : List ℕ) (o : Octets m) (w : wellFormed m ≡ true) (q : Request)
 
     -- Done: the point is in its place.
     pub register-done : isDone (seatFault q (findAt m first h (q .ioa))) ≡ true → isDone (roomAt m i) ≡ true
-        → Replies (registering q) m (plainReply Done) (placed m (q .ca) (pointOf q) i h (offsetOf (findAt m first h (q .ioa))))
+        → Replies (registering q) m (placeless Done) (placed m (q .ca) (pointOf q) i h (offsetOf (findAt m first h (q .ioa))))
     unfolding registering
     register-done d r =
         let z = seat-law m (q .ca) i first h o w e in

@@ -20,7 +20,7 @@ use Rattle.remove.specs.Remove.{takenOut, allTakenOut}
 use Rattle.remove.proofs.Entry.{take-out-law, take-all-out-law}
 use Rattle.registry.specs.Effect.{Effect, refused}
 use Rattle.registry.specs.Registry.{isRegistered, unregistering, unregisteringAll, noShare, shareIn, shareFrom, shareOn}
-use Rattle.replies.specs.Replies.{Replies, plainReply}
+use Rattle.replies.specs.Replies.{Replies, placeless}
 use Rattle.replies.proofs.Ways.{refused-by, done-by}
 use Rattle.actor.specs.Actor.{stationShareAt}
 use Rattle.actor.proofs.Rooms.{station-share, free-is, unmet-is}
@@ -30,19 +30,19 @@ module _ (m : List ℕ) (w : wellFormed m ≡ true) (ca ioa : ℕ) where
   unfolding unregistering
   not-registered e = simp e
 
-  out-refused : isRegistered ioa (stationOf ca (tableOf m .stations)) ≡ false → Replies (unregistering ca ioa) m (plainReply NotRegistered) m
+  out-refused : isRegistered ioa (stationOf ca (tableOf m .stations)) ≡ false → Replies (unregistering ca ioa) m (placeless NotRegistered) m
   out-refused e =
       let u = not-registered e in
       refused-by (unregistering ca ioa) m w NotRegistered (ap (λ (x : Effect). x .outcome) u) (ap (λ (x : Effect). x .place) u) refl
 
   -- The plan has no such station: 18.
-  pub out-absent : seatAt m ca ≡ NotPlanned → Replies (unregistering ca ioa) m (plainReply NotRegistered) m
+  pub out-absent : seatAt m ca ≡ NotPlanned → Replies (unregistering ca ioa) m (placeless NotRegistered) m
   unfolding isRegistered
   out-absent e = out-refused (ap (isRegistered ioa) (absent-law m ca e))
 
   module _ (o : Octets m) (i first h : ℕ) (e : seatAt m ca ≡ Here i first h) where
     -- The station has no such point: 18.
-    pub out-missing : (at : ℕ) → findAt m first h ioa ≡ Missing at → Replies (unregistering ca ioa) m (plainReply NotRegistered) m
+    pub out-missing : (at : ℕ) → findAt m first h ioa ≡ Missing at → Replies (unregistering ca ioa) m (placeless NotRegistered) m
     unfolding isRegistered
     out-missing at p =
         let z = seat-law m ca i first h o w e in
@@ -50,7 +50,7 @@ module _ (m : List ℕ) (w : wellFormed m ≡ true) (ca ioa : ℕ) where
         out-refused (ap (isRegistered ioa) (z .seat .is-station) ∙ k)
 
     -- Done: the point is gone.
-    pub out-done : (at : ℕ) → findAt m first h ioa ≡ Held at → Replies (unregistering ca ioa) m (plainReply Done) (takenOut m i h at)
+    pub out-done : (at : ℕ) → findAt m first h ioa ≡ Held at → Replies (unregistering ca ioa) m (placeless Done) (takenOut m i h at)
     unfolding unregistering isRegistered
     out-done at p =
         let z = take-out-law m ca ioa i first h at o w e p in

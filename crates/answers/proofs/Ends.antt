@@ -1,7 +1,7 @@
 -- The ways out of an entry that answers a command: no table, a refusal of the command's own, an answer that does not fit, and an answer given.
 -- Each gives back what `answeredOn` says and leaves the memories that `lentAfter` says. Assumes nothing.
 use mathlib.Core.Path.{_≡_, refl, sym, ap, _∙_}
-use mathlib.Core.List.{List, [], _++_}
+use mathlib.Core.List.{List, [], _∷_, _++_}
 use mathlib.Core.Bool.{Bool, true, false}
 use mathlib.Core.Option.{none, some}
 use Prim.Native.Nat.{ℕ, _+_, _≤_, _<_}
@@ -15,8 +15,9 @@ use Rattle.limits.specs.declared.outcome.Outcome.{Outcome}
 use Rattle.limits.specs.declared.outcome.Outcome.the-variants.{Done, TableNotWellFormed, AnswerShort}
 use Rattle.octets.specs.Number.{Octets}
 use Rattle.octets.specs.Over.{over}
-use Rattle.asdu.specs.Header.{Asdu, wire}
+use Rattle.asdu.specs.Header.{Asdu, asduOctets, wire}
 use Rattle.asdu.specs.Joined.{joined}
+use Rattle.asdu.proofs.Laws.{wire-one}
 use Rattle.table.specs.Table.{Table}
 use Rattle.table.specs.Memory.{tableOf, wellFormed, parse}
 use Rattle.table.proofs.Parse.{passed, printed, parse-some, parse-none}
@@ -41,6 +42,14 @@ module _ (X : List Asdu) (m : List ℕ) where
   pub sends-all : (n : ℕ) (m′ : List ℕ) → size X ≤ length m → n ≡ size X → m′ ≡ over m 0 (wire X) → Sends X m (given n) m′
   unfolding sent left
   sends-all n m′ h e f = record { answers = ap given e ∙ sym (simp (le-leb _ _ h)); leaves = f ∙ front-is m X ∙ sym (simp (le-leb _ _ h)) }
+
+-- The same of one ASDU.
+module _ (a : Asdu) (m : List ℕ) where
+  pub one-nothing : length m < length (asduOctets a) → Sends (a ∷ []) m (nothing AnswerShort) m
+  one-nothing h = sends-nothing (a ∷ []) m (rw (wire-one a) h)
+
+  pub one-all : (n : ℕ) (m′ : List ℕ) → length (asduOctets a) ≤ length m → n ≡ length (asduOctets a) → m′ ≡ over m 0 (asduOctets a) → Sends (a ∷ []) m (given n) m′
+  one-all n m′ h e f = sends-all (a ∷ []) m n m′ (rw (wire-one a) h) (rw (wire-one a) e) (rw (wire-one a) f)
 
 -- The same of answers that are equal.
 pub sends-along : (X Y : List Asdu) (m m′ : List ℕ) (r : Answered) → X ≡ Y → Sends X m r m′ → Sends Y m r m′

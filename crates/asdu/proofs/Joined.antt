@@ -1,11 +1,10 @@
 -- The laws of lists that are joined. Assumes nothing.
 use mathlib.Core.Path.{_≡_, refl, sym, ap, ap₂, _∙_}
 use mathlib.Core.List.{List, [], _∷_, _++_, map, append-assoc, append-nil}
-use Prim.Native.Nat.{ℕ}
 use native.Mathlib.Omega.{arith}
 use lib.ListN.{length, length-append}
 use Rattle.limits.specs.Test.{total}
-use Rattle.asdu.specs.Joined.{joined, flat}
+use Rattle.asdu.specs.Joined.{joined}
 
 module _ {A B : Type 0} (f : A → List B) where
   pub joined-one : (x : A) → joined f (x ∷ []) ≡ f x

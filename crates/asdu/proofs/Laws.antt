@@ -1,6 +1,6 @@
 -- The octets of an ASDU: how many they are, and that what was written is read back. Assumes nothing.
 use mathlib.Core.Path.{_≡_, refl, sym, ap, _∙_}
-use mathlib.Core.List.{List, [], _∷_, _++_}
+use mathlib.Core.List.{List, [], _∷_, _++_, map}
 use mathlib.Core.Bool.{Bool, true, false}
 use Prim.Native.Nat.{ℕ, suc, _+_, _*_, _-_, _/_, _%_, _≤_, _<_}
 use native.Mathlib.Omega.{arith}
@@ -12,7 +12,7 @@ use Rattle.octets.specs.Number.{Octets, three}
 use Rattle.asdu.specs.declared.header.Header.{Header}
 use Rattle.asdu.specs.Joined.{joined}
 use Rattle.asdu.specs.Header.{Object, Asdu, header, objectOctets, asduOctets, wire, causeOctet, headerIn, sequenceIn}
-use Rattle.asdu.proofs.Joined.{joined-one, joined-append}
+use Rattle.asdu.proofs.Joined.{joined-one, joined-append, joined-map}
 
 -- ---- lengths
 
@@ -39,6 +39,10 @@ pub wire-none : wire [] ≡ []
 unfolding wire joined
 wire-none = refl
 
+pub wire-more : (a : Asdu) (xs : List Asdu) → wire (a ∷ xs) ≡ asduOctets a ++ wire xs
+unfolding wire joined
+wire-more a xs = refl
+
 pub wire-one : (a : Asdu) → wire (a ∷ []) ≡ asduOctets a
 unfolding wire
 wire-one a = joined-one asduOctets a
@@ -46,6 +50,17 @@ wire-one a = joined-one asduOctets a
 pub wire-append : (xs ys : List Asdu) → wire (xs ++ ys) ≡ wire xs ++ wire ys
 unfolding wire
 wire-append xs ys = joined-append asduOctets xs ys
+
+-- an ASDU of each
+pub wire-map : {A : Type 0} (f : A → Asdu) (xs : List A) → wire (map f xs) ≡ joined (λ x. asduOctets (f x)) xs
+unfolding wire
+wire-map f xs = joined-map asduOctets f xs
+
+-- confirmation, data, termination
+pub wire-between : (a : Asdu) (xs : List Asdu) (b : Asdu) → wire (a ∷ (xs ++ (b ∷ []))) ≡ asduOctets a ++ (wire xs ++ asduOctets b)
+wire-between a xs b =
+    wire-more a (xs ++ (b ∷ []))
+    ∙ ap (λ (l : List ℕ). asduOctets a ++ l) (wire-append xs (b ∷ []) ∙ ap (λ (l : List ℕ). wire xs ++ l) (wire-one b))
 
 -- all that lies from `from` on, as a part that is lent has it
 pub lent-rest : (m : List ℕ) (from : ℕ) → take (length m - from) (drop from m) ≡ drop from m

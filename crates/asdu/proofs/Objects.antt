@@ -1,15 +1,16 @@
 -- Objects read from octets: how many they are, and that written again they are the same octets. Assumes nothing.
 use mathlib.Core.Path.{_≡_, refl, sym, ap, ap₂, _∙_}
-use mathlib.Core.List.{List, [], _∷_, _++_}
-use Prim.Native.Nat.{ℕ, zero, suc, _+_, _*_, _-_, _/_, _%_, _≤_}
+use mathlib.Core.List.{List, [], _∷_, _++_, append-assoc}
+use Prim.Native.Nat.{ℕ, zero, suc, _+_, _*_, _-_, _/_, _%_, _≤_, _<_}
 use native.Mathlib.Omega.{arith}
 use native.Mathlib.Nat.{zero-mul, suc-mul, add-zero, not-suc-le-zero, div-add-mod'}
-use lib.ListN.{length, take, drop, getD, length-append, length-take, length-drop}
-use lib.Seq.{take-add, take-all, getD-drop}
+use lib.ListN.{length, take, drop, length-append, length-take, length-drop}
+use lib.Seq.{take-add, take-all, take-at, drop-at, getD-drop}
 use Rattle.octets.specs.Number.{Octets, three, triple}
 use Rattle.asdu.specs.Joined.{joined}
 use Rattle.asdu.specs.Header.{Object, objectOctets}
 use Rattle.asdu.specs.Confirmation.{objectIn, objectsIn, objectsOf}
+use Rattle.asdu.proofs.Laws.{length-object}
 
 -- ---- three octets
 
@@ -60,6 +61,36 @@ length-objects e (suc n) xs h =
     let d : length (drop (3 + e) xs) ≡ length xs - (3 + e) = length-drop (3 + e) xs in
     let r : length (joined objectOctets (objectsIn e n (drop (3 + e) xs))) ≡ n * (3 + e) = length-objects e n (drop (3 + e) xs) (omega arith) in
     simp (length-append, length-take, length-drop) (omega arith)
+
+-- ---- written and read back
+
+-- an object whose address fits three octets, its element of e octets
+abbrev pub Readable : ℕ → Object → Type 0
+Readable e x = (x .ioa < 16777216) × (length (x .element) ≡ e)
+
+object-in-back : (e : ℕ) (x : Object) (rest : List ℕ) → Readable e x → objectIn e (objectOctets x ++ rest) ≡ x
+unfolding objectOctets
+object-in-back e x rest h =
+    let n : three (triple (x .ioa) ++ x .element ++ rest) 0 ≡ x .ioa = omega (arith, h .0) in
+    let t : take e (x .element ++ rest) ≡ x .element = take-at (x .element) rest e (h .1) in
+    λ j. record { ioa = n j; element = t j }
+
+unfoldable pub AllReadable : ℕ → List Object → Type 0
+AllReadable e [] = Unit
+AllReadable e (x ∷ xs) = Readable e x × AllReadable e xs
+
+-- OBJECTS that were written are read back, whatever follows them
+pub objects-back : (e : ℕ) (xs : List Object) (rest : List ℕ) → AllReadable e xs → objectsIn e (length xs) (joined objectOctets xs ++ rest) ≡ xs
+unfolding objectsIn joined AllReadable
+objects-back e [] rest h = refl
+objects-back e (x ∷ xs) rest h =
+    let A : List ℕ = objectOctets x in
+    let R : List ℕ = joined objectOctets xs ++ rest in
+    let s : A ++ joined objectOctets xs ++ rest ≡ A ++ R = append-assoc A (joined objectOctets xs) rest in
+    let l : length A ≡ 3 + e = length-object x ∙ ap (λ (k : ℕ). 3 + k) (h .0 .1) in
+    let d : drop (3 + e) (A ++ R) ≡ R = drop-at A R (3 + e) l in
+    ap (objectsIn e (suc (length xs))) s
+    ∙ ap₂ (λ (y : Object) (ys : List Object). y ∷ ys) (object-in-back e x R (h .0)) (ap (objectsIn e (length xs)) d ∙ objects-back e xs rest (h .1))
 
 -- ---- written again
 

@@ -1,7 +1,7 @@
 -- Three parts written one by one, the middle first, are the whole at the front; and so data between confirmation and termination are the answer.
 -- Assumes nothing.
 use mathlib.Core.Path.{_≡_, refl, sym, ap, ap₂, _∙_}
-use mathlib.Core.List.{List, [], _++_, append-assoc}
+use mathlib.Core.List.{List, [], _∷_, _++_, append-assoc}
 use mathlib.Core.Bool.{Bool, true, false}
 use Prim.Native.Nat.{ℕ, _+_, _-_, _≤_, _<_}
 use native.Mathlib.Omega.{arith}
@@ -11,19 +11,33 @@ use lib.Dec.{ltb}
 use borrow.Author.Tests.{ltb-true, ltb-false}
 use Rattle.limits.specs.Test.{pick}
 use Rattle.asdu.specs.declared.command.Command.{Command}
+use Rattle.asdu.specs.Header.{Asdu, asduOctets, wire}
+use Rattle.asdu.proofs.Laws.{wire-one, wire-append}
 use Rattle.asdu.proofs.Lengths.{length-confirmation}
 use Rattle.report.specs.declared.Selection.{Selection}
-use Rattle.output.specs.declared.data.Written.the-variants.{Octets, Short}
-use Rattle.output.specs.Data.{dataFor, wrote, written, tooShort}
+use Rattle.output.specs.declared.data.Written.the-variants.{Octets as Wrote, Short}
+use Rattle.output.specs.Data.{arranged, dataOf, wrote, written, tooShort}
+use Rattle.output.specs.Reach.{reachOf}
+use Rattle.output.proofs.Reached.{reached}
+use Rattle.octets.specs.Number.{Octets}
+use Rattle.table.specs.Memory.{wellFormed, tableOf, pointsAt}
+use Rattle.model.specs.declared.Point.{Point}
+use Rattle.report.specs.declared.Reach.{Reach}
+use Rattle.report.specs.declared.Terms.{Terms}
+use Rattle.asdu.specs.Joined.{joined}
+use Rattle.report.specs.Packing.{selected}
+use Rattle.report.specs.Selection.{selects}
+use Rattle.report.specs.Report.{report}
+use Rattle.report.specs.Order.{pointsFor}
 use Rattle.limits.specs.declared.outcome.Outcome.the-variants.{AnswerShort}
 use Rattle.octets.specs.Over.{over}
 use Rattle.octets.proofs.Laws.{over-at}
 use Rattle.answers.proofs.Ends.{sends-nothing, sends-all}
-use Rattle.answers.specs.Said.{nothing, given, Sends}
+use Rattle.answers.specs.Said.{size, nothing, given, Sends}
 use Rattle.answers.specs.System.{confirmed, terminated, reported}
 use Rattle.table.specs.Table.{Table}
 use Rattle.table.specs.Settings.{limitOf}
-use Rattle.confirming.specs.Sending.{beforeElement}
+use Rattle.asdu.specs.Command.{firstElement}
 
 -- Data between what stands before and after them: the data first, then the front, then the end.
 pub between : (m C D T : List ℕ) (c d : ℕ) → length C ≡ c → length D ≡ d → c + (d + length T) ≤ length m
@@ -63,37 +77,54 @@ pub data-short : (out : List ℕ) (before after : ℕ) (xs : List ℕ) → wrote
 unfolding wrote written tooShort
 data-short out before after xs e = by-test (ltb (length out) (before + (length xs + after))) refl e
   where
-    by-test : (b : Bool) → ltb (length out) (before + (length xs + after)) ≡ b → pick b Short (Octets (length xs)) ≡ Short
+    by-test : (b : Bool) → ltb (length out) (before + (length xs + after)) ≡ b → pick b Short (Wrote (length xs)) ≡ Short
         → (length out < before + (length xs + after)) × (out ≡ pick (ltb (length out) (before + (length xs + after))) out (over out before xs))
     by-test true t e′ = (ltb-true _ _ t, sym (simp t))
     by-test false t e′ = let z : _≡_ {A = ℕ} 0 1 = cc in absurd (omega arith)
 
-pub data-full : (out : List ℕ) (before after k : ℕ) (xs : List ℕ) → wrote (length out) before after xs ≡ Octets k
+pub data-full : (out : List ℕ) (before after k : ℕ) (xs : List ℕ) → wrote (length out) before after xs ≡ Wrote k
     → (k ≡ length xs) × (before + (length xs + after) ≤ length out) × (written out before after xs ≡ over out before xs)
 unfolding wrote written tooShort
 data-full out before after k xs e = by-test (ltb (length out) (before + (length xs + after))) refl e
   where
-    by-test : (b : Bool) → ltb (length out) (before + (length xs + after)) ≡ b → pick b Short (Octets (length xs)) ≡ Octets k
+    by-test : (b : Bool) → ltb (length out) (before + (length xs + after)) ≡ b → pick b Short (Wrote (length xs)) ≡ Wrote k
         → (k ≡ length xs) × (before + (length xs + after) ≤ length out) × (pick (ltb (length out) (before + (length xs + after))) out (over out before xs) ≡ over out before xs)
     by-test true t e′ = let z : _≡_ {A = ℕ} 0 1 = cc in absurd (omega arith)
     by-test false t e′ = (cc, ltb-false _ _ t, simp t)
 
 -- ---- the whole answer
 
-module _ (t : Table) (c : Command) (m types : List ℕ) (cause : ℕ) (sel : Selection) (out : List ℕ) (h : beforeElement + c .element ≤ length m) where
+wire-more : (a : Asdu) (xs : List Asdu) → wire (a ∷ xs) ≡ asduOctets a ++ wire xs
+unfolding wire joined
+wire-more a xs = refl
+
+-- What `put_data` writes of the reach of a CA is the report of the points that the CA speaks of.
+pub data-is : (terms : Terms) (types : List ℕ) (sel : Selection) (m : List ℕ) (ca : ℕ) (r : Reach) → r ≡ reachOf m ca → Octets m → wellFormed m ≡ true
+    → dataOf terms types sel m r ≡ report (terms .limit) types (terms .cause) (terms .ca) (selected (selects sel) (pointsFor ca (tableOf m .stations)))
+unfolding dataOf
+data-is terms types sel m ca r e o w =
+    ap (λ (x : Reach). report (terms .limit) types (terms .cause) (terms .ca) (selected (selects sel) (arranged (x .every) (pointsAt m (x .base) (x .n))))) e
+    ∙ ap (λ (ps : List Point). report (terms .limit) types (terms .cause) (terms .ca) (selected (selects sel) ps)) (reached m ca o w .points)
+
+module _ (t : Table) (c : Command) (m types : List ℕ) (cause : ℕ) (sel : Selection) (out : List ℕ) (h : firstElement + c .element ≤ length m) where
   -- its data, and the octets before and after them
   abbrev asked : List ℕ
-  asked = dataFor (limitOf t) types cause (c .ca) sel (t .stations)
+  asked = wire (report (limitOf t) types cause (c .ca) (selected (selects sel) (pointsFor (c .ca) (t .stations))))
 
   abbrev around : ℕ
-  around = beforeElement + c .element
+  around = firstElement + c .element
 
-  length-reported : length (reported t c m types cause sel) ≡ around + (length asked + around)
-  unfolding reported dataFor
+  -- the octets of the whole, part by part
+  reported-octets : wire (reported t c m types cause sel) ≡ asduOctets (confirmed c m) ++ (asked ++ asduOctets (terminated c m))
+  unfolding reported
+  reported-octets =
+      wire-more (confirmed c m) _ ∙ ap (λ (x : List ℕ). asduOctets (confirmed c m) ++ x) (wire-append _ (terminated c m ∷ []) ∙ ap (λ (x : List ℕ). asked ++ x) (wire-one (terminated c m)))
+
+  length-reported : size (reported t c m types cause sel) ≡ around + (length asked + around)
   length-reported =
       let a = length-confirmation c m 7 false h in
       let b = length-confirmation c m 10 false h in
-      simp length-append (omega arith)
+      ap length reported-octets ∙ simp length-append (omega arith)
 
   -- There is no room: nothing is written.
   pub no-room : wrote (length out) around around asked ≡ Short → (out′ : List ℕ) → out′ ≡ written out around around asked
@@ -105,14 +136,13 @@ module _ (t : Table) (c : Command) (m types : List ℕ) (cause : ℕ) (sel : Sel
       record { answers = z .answers; leaves = f ∙ sym (s .1) ∙ z .leaves }
 
   -- There is room for all.
-  pub has-room : (k : ℕ) → wrote (length out) around around asked ≡ Octets k → around + (k + around) ≤ length out
+  pub has-room : (k : ℕ) → wrote (length out) around around asked ≡ Wrote k → around + (k + around) ≤ length out
   has-room k e = let s = data-full out around around k asked e in omega (arith, s .0, s .1)
 
   -- And the data, the confirmation, the termination make the whole.
-  pub all-written : (k : ℕ) → wrote (length out) around around asked ≡ Octets k → (out₁ out₂ out₃ : List ℕ) → out₁ ≡ written out around around asked
-      → out₂ ≡ over out₁ 0 (confirmed c m) → out₃ ≡ over out₂ (around + k) (terminated c m)
+  pub all-written : (k : ℕ) → wrote (length out) around around asked ≡ Wrote k → (out₁ out₂ out₃ : List ℕ) → out₁ ≡ written out around around asked
+      → out₂ ≡ over out₁ 0 (asduOctets (confirmed c m)) → out₃ ≡ over out₂ (around + k) (asduOctets (terminated c m))
       → Sends (reported t c m types cause sel) out (given (around + (k + around))) out₃
-  unfolding reported dataFor
   all-written k e out₁ out₂ out₃ e₁ e₂ e₃ =
       let s = data-full out around around k asked e in
       let l = length-reported in
@@ -120,7 +150,10 @@ module _ (t : Table) (c : Command) (m types : List ℕ) (cause : ℕ) (sel : Sel
       let lt = length-confirmation c m 10 false h in
       let room = s .1 in
       let n = s .0 in
-      let o₂ : out₂ ≡ over (over out around asked) 0 (confirmed c m) = e₂ ∙ ap (λ (x : List ℕ). over x 0 (confirmed c m)) (e₁ ∙ s .2) in
-      let o₃ = e₃ ∙ (λ j. over (o₂ j) (around + n j) (terminated c m)) in
-      let w = between out (confirmed c m) asked (terminated c m) around (length asked) lc refl (omega arith) in
-      sends-all (reported t c m types cause sel) out (around + (k + around)) out₃ (omega arith) (omega arith) (o₃ ∙ w)
+      let C = asduOctets (confirmed c m) in
+      let T = asduOctets (terminated c m) in
+      let o₂ : out₂ ≡ over (over out around asked) 0 C = e₂ ∙ ap (λ (x : List ℕ). over x 0 C) (e₁ ∙ s .2) in
+      let o₃ = e₃ ∙ (λ j. over (o₂ j) (around + n j) T) in
+      let w = between out C asked T around (length asked) lc refl (omega arith) in
+      sends-all (reported t c m types cause sel) out (around + (k + around)) out₃ (omega arith) (omega arith)
+      (o₃ ∙ w ∙ ap (over out 0) (sym reported-octets))

@@ -17,7 +17,7 @@ use Rattle.report.specs.Packing.{selected}
 use Rattle.report.specs.Selection.{selects}
 use Rattle.report.specs.Report.{report}
 use Rattle.report.specs.Order.{byAddress}
-use Rattle.chains.specs.Chain.{slots, slotOn, LinkedBy}
+use Rattle.chains.specs.Chain.{slots, Links}
 use Rattle.chains.specs.Follow.{octetsOn}
 use Rattle.output.specs.Order.{placesIn}
 use Rattle.output.specs.declared.data.Written.{Written}
@@ -58,4 +58,4 @@ Writes before after xs out r out′ = (r ≡ wrote (length out) before after xs)
 -- The chains of the selected places in the order of an answer, and the octets of their report.
 abbrev pub SizedBy : Selection → ℕ → List ℕ → List ℕ → Reach → List ℕ → List ℕ → ℕ → List ℕ → List ℕ → List ℕ → Type 0
 SizedBy s limit types m r h x octets heads next counts =
-    LinkedBy (slotOn s m (r .base)) (placesIn (r .every) m (r .base) (r .n)) h x heads next counts × (octets ≡ octetsOn limit types counts) × (octets ≤ 134217728)
+    Links s m r (placesIn (r .every) m (r .base) (r .n)) h x heads next counts × (octets ≡ octetsOn limit types counts) × (octets ≤ 134217728)

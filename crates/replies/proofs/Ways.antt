@@ -12,10 +12,10 @@ use Rattle.table.specs.Table.{Table}
 use Rattle.table.specs.Memory.{tableOf, wellFormed, parse}
 use Rattle.table.proofs.Parse.{parse-some, parse-none}
 use Rattle.registry.specs.Effect.{Effect, holding, replyFrom, memoryFrom, replyOn, memoryOn}
-use Rattle.replies.specs.Replies.{Replies, plainReply}
+use Rattle.replies.specs.Replies.{Replies, placeless}
 
 -- No table: 3, and the memory as it was.
-pub no-table : (f : Table → Effect) (m : List ℕ) → wellFormed m ≡ false → Replies f m (plainReply TableNotWellFormed) m
+pub no-table : (f : Table → Effect) (m : List ℕ) → wellFormed m ≡ false → Replies f m (placeless TableNotWellFormed) m
 unfolding replyFrom memoryFrom
 no-table f m w = let p : parse m ≡ none = parse-none m w in (ap (replyFrom f) (sym p), ap (memoryFrom f m) (sym p))
 
@@ -27,7 +27,7 @@ module _ (f : Table → Effect) (m : List ℕ) (w : wellFormed m ≡ true) where
   of-table = let p : parse m ≡ some (tableOf m) = parse-some m w in (ap (replyFrom f) p, ap (memoryFrom f m) p)
 
   -- A refusal of the table's own.
-  pub refused-by : (o : Outcome) → f (tableOf m) .outcome ≡ o → f (tableOf m) .place ≡ 0 → isDone o ≡ false → Replies f m (plainReply o) m
+  pub refused-by : (o : Outcome) → f (tableOf m) .outcome ≡ o → f (tableOf m) .place ≡ 0 → isDone o ≡ false → Replies f m (placeless o) m
   refused-by o e z d =
       let d′ : isDone (f (tableOf m) .outcome) ≡ false = ap isDone e ∙ d in
       ((λ j. record { outcome = sym e j; place = sym z j }) ∙ sym (of-table .0), sym (of-table .1 ∙ simp d′))

@@ -12,5 +12,5 @@ abbrev pub Replies : (Table → Effect) → List ℕ → Reply → List ℕ → 
 Replies f m r m′ = (r ≡ replyOn f m) × (m′ ≡ memoryOn f m)
 
 -- An outcome with no place.
-abbrev pub plainReply : Outcome → Reply
-plainReply o = record { outcome = o; place = 0 }
+abbrev pub placeless : Outcome → Reply
+placeless o = record { outcome = o; place = 0 }

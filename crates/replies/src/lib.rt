@@ -4,11 +4,11 @@ use limits::share::Admission;
 use registry::Reply;
 ghost use mathlib.Core.Path.{_≡_};
 ghost use Rattle.registry.specs.Registry.{admissionOutcome};
-ghost use Rattle.replies.specs.Replies.{plainReply};
+ghost use Rattle.replies.specs.Replies.{placeless};
 
 // An outcome with no place.
 pub fn reply_of(outcome: Outcome) -> Reply
-    ensures { λ r. ⌜ r ≡ plainReply outcome ⌝ }
+    ensures { λ r. ⌜ r ≡ placeless outcome ⌝ }
 {
     Reply {
         outcome: outcome,

@@ -13,10 +13,9 @@ use Rattle.limits.specs.Test.{total}
 use Rattle.limits.specs.Size.{pointOctets, mostObjects, asdusOf, runOctets}
 use Rattle.limits.proofs.Sizes.{point-at-most, one-fits, asdu-fits}
 use Rattle.asdu.specs.Header.{Object, Asdu, objectOctets, asduOctets, wire}
-use Rattle.asdu.proofs.Laws.{length-asdu}
-use Rattle.asdu.proofs.Laws.{length-object as object-octets}
+use Rattle.asdu.proofs.Laws.{length-asdu, length-object as object-octets}
 use Rattle.model.specs.declared.Point.{Point}
-use Rattle.report.specs.Packing.{joined, flat, chunks, Full, Each}
+use Rattle.report.specs.Packing.{joined, chunks, Full, Each}
 use Rattle.report.specs.Report.{dataHeader, dataAsdu, objectOf, ofKind, ordered, run, report}
 use Rattle.report.proofs.Packing.{joined-map, joined-joined, joined-same, map-joined, length-joined, chunks-flat, chunks-full, chunks-count}
 use Rattle.report.proofs.Each.{each-chunks, each-both, each-so, each-of, each-then, each-joined, each-selected, selected-pass, full-each, length-even, total-more, total-same}

@@ -1,6 +1,6 @@
 -- ASDUs of one object: their lengths, and that the end of initialisation has the smallest CA with a point. Assumes nothing.
 use mathlib.Core.Path.{_≡_, refl, ap, _∙_}
-use mathlib.Core.List.{List, [], _∷_}
+use mathlib.Core.List.{List, [], _∷_, _++_}
 use mathlib.Core.Bool.{Bool, true, false}
 use Prim.Native.Nat.{ℕ, _+_, _≤_, _<_}
 use native.Mathlib.Omega.{arith}
@@ -16,7 +16,7 @@ use Rattle.asdu.proofs.Laws.{length-asdu}
 use Rattle.model.specs.declared.Point.{Point}
 use Rattle.table.specs.Table.{Station, held, planOk, numbersOk}
 use Rattle.report.specs.Packing.{joined, Each}
-use Rattle.report.specs.Report.{objectOf, dataAsdu}
+use Rattle.report.specs.Report.{objectOf, dataHeader, dataAsdu}
 use Rattle.report.specs.Single.{single, endOfInitializationAsdu, stationCommonAddress}
 use Rattle.report.proofs.Each.{each-so}
 use Rattle.report.proofs.Report.{Whole, length-object}
@@ -30,6 +30,11 @@ length-single cause ca p w =
     let b : length (joined objectOctets (objectOf p ∷ [])) ≡ length (objectOctets (objectOf p)) = ap length (joined-one objectOctets (objectOf p)) in
     let c : length (objectOctets (objectOf p)) ≡ 3 + pointOctets (p .kind) = length-object p w in
     omega arith
+
+-- the octets of the end of initialisation: its header, IOA 0, octet 0
+pub end-octets : (ca : ℕ) → asduOctets (endOfInitializationAsdu ca) ≡ header (dataHeader 70 1 4 ca) ++ (0 ∷ 0 ∷ 0 ∷ 0 ∷ [])
+unfolding endOfInitializationAsdu asduOctets objectOctets joined
+end-octets ca = refl
 
 -- the end of initialisation takes ten octets
 pub length-end : (ca : ℕ) → length (asduOctets (endOfInitializationAsdu ca)) ≡ 10

@@ -6,8 +6,6 @@ use denote.Ref.{now}
 use Rattle.octets.specs.Number.{Octets}
 use Rattle.table.specs.Memory.{wellFormed}
 use Rattle.table.proofs.Parse.{passed}
-use Rattle.seats.specs.Seats.{seatAt}
-use Rattle.seats.specs.declared.Seat.the-variants.{Here}
 use Rattle.seats.proofs.Laws.{seat-law}
 use Rattle.actor.proofs.Unregister.{share-no-table, share-absent, share-found}
 use borrow.Author.Needs.{needs}
@@ -71,9 +69,8 @@ share-here-requires c κs =
     let m = now (a .table) in
     let w : wellFormed m ≡ true = sym (at-well-formed .well-formed .ensures) ∙ not-false _ (at-if1 .if1 .left) in
     let o : Octets m = λ k. omega (arith, at-shared-slice-known .shared-slice-known .given k) in
-    let g = c .before .i .given in
-    let s : seatAt m (a .ca) ≡ Here (g .0 .0) (g .0 .1 .0) (g .0 .1 .1 .0) = sym (at-seat-at .seat-at .ensures) ∙ g .1 in
-    let z = seat-law m (a .ca) (g .0 .0) (g .0 .1 .0) (g .0 .1 .1 .0) o w s in
+    let s = sym (at-seat-at .seat-at .ensures) ∙ c .before .i .given .1 in
+    let z = seat-law m (a .ca) _ _ _ o w s in
     let i = z .stations in
     let q = passed m w in
     let few = q .few in
@@ -92,9 +89,8 @@ returns-3 c =
     let m = now (a .table) in
     let w : wellFormed m ≡ true = sym (at-well-formed .well-formed .ensures) ∙ not-false _ (at-if1 .if1 .left) in
     let o : Octets m = λ k. omega (arith, at-shared-slice-known .shared-slice-known .given k) in
-    let g = c .before .before .i .given in
-    let s : seatAt m (a .ca) ≡ Here (g .0 .0) (g .0 .1 .0) (g .0 .1 .1 .0) = sym (at-seat-at .seat-at .ensures) ∙ g .1 in
-    c .share-here .ensures ∙ share-found m w (a .ca) o (g .0 .0) (g .0 .1 .0) (g .0 .1 .1 .0) s
+    let s = sym (at-seat-at .seat-at .ensures) ∙ c .before .before .i .given .1 in
+    c .share-here .ensures ∙ share-found m w (a .ca) o _ _ _ s
 
 pub station-share-spec : {M : Type 1} → statement M
 station-share-spec =

@@ -6,8 +6,6 @@ use denote.Ref.{now}
 use Rattle.octets.specs.Number.{Octets}
 use Rattle.table.specs.Memory.{wellFormed}
 use Rattle.table.proofs.Parse.{passed}
-use Rattle.seats.specs.Seats.{seatAt}
-use Rattle.seats.specs.declared.Seat.the-variants.{Here}
 use Rattle.seats.proofs.Laws.{seat-law}
 use Rattle.registry.specs.Registry.{unregistering}
 use Rattle.replies.proofs.Ways.{no-table}
@@ -82,9 +80,8 @@ find-requires c κs =
     let m = now (a .table) in
     let w : wellFormed m ≡ true = sym (at-well-formed .well-formed .ensures) ∙ not-false _ (at-if1 .if1 .left) in
     let o : Octets m = λ k. omega (arith, at-slice-known .slice-known .given k) in
-    let g = c .before .before .i .given in
-    let s : seatAt m (a .ca) ≡ Here (g .0 .0) (g .0 .1 .0) (g .0 .1 .1 .0) = sym (at-seat-at .seat-at .ensures) ∙ g .1 in
-    let z = seat-law m (a .ca) (g .0 .0) (g .0 .1 .0) (g .0 .1 .1 .0) o w s in
+    let s = sym (at-seat-at .seat-at .ensures) ∙ c .before .before .i .given .1 in
+    let z = seat-law m (a .ca) _ _ _ o w s in
     let places = z .places in
     let q = passed m w in
     let few = q .few in
@@ -116,9 +113,8 @@ returns-3 c =
     let m = now (a .table) in
     let w : wellFormed m ≡ true = sym (at-well-formed .well-formed .ensures) ∙ not-false _ (at-if1 .if1 .left) in
     let o : Octets m = λ k. omega (arith, at-slice-known .slice-known .given k) in
-    let g = at-i .i .given in
-    let s : seatAt m (a .ca) ≡ Here (g .0 .0) (g .0 .1 .0) (g .0 .1 .1 .0) = sym (at-seat-at .seat-at .ensures) ∙ g .1 in
-    let z = out-missing m w (a .ca) (a .ioa) o (g .0 .0) (g .0 .1 .0) (g .0 .1 .1 .0) s _ (sym (at-find .find .ensures) ∙ c .before .enum-told2 .given .1) in
+    let s = sym (at-seat-at .seat-at .ensures) ∙ at-i .i .given .1 in
+    let z = out-missing m w (a .ca) (a .ioa) o _ _ _ s _ (sym (at-find .find .ensures) ∙ c .before .enum-told2 .given .1) in
     (c .reply-of3 .ensures ∙ z .0, z .1)
 
 take-out-requires : tie.Need-take-out-requires
@@ -134,9 +130,8 @@ take-out-requires c κs =
     let m = now (a .table) in
     let w : wellFormed m ≡ true = sym (at-well-formed .well-formed .ensures) ∙ not-false _ (at-if1 .if1 .left) in
     let o : Octets m = λ k. omega (arith, at-slice-known .slice-known .given k) in
-    let g = at-i .i .given in
-    let s : seatAt m (a .ca) ≡ Here (g .0 .0) (g .0 .1 .0) (g .0 .1 .1 .0) = sym (at-seat-at .seat-at .ensures) ∙ g .1 in
-    let b = take-out-law m (a .ca) (a .ioa) (g .0 .0) (g .0 .1 .0) (g .0 .1 .1 .0) _ o w s (sym (at-find .find .ensures) ∙ c .before .before .at .given .1) .bounds in
+    let s = sym (at-seat-at .seat-at .ensures) ∙ at-i .i .given .1 in
+    let b = take-out-law m (a .ca) (a .ioa) _ _ _ _ o w s (sym (at-find .find .ensures) ∙ c .before .before .at .given .1) .bounds in
     b
 
 reply-of-requires-4 : tie.Need-reply-of-requires-4
@@ -160,9 +155,8 @@ returns-4 c =
     let m = now (a .table) in
     let w : wellFormed m ≡ true = sym (at-well-formed .well-formed .ensures) ∙ not-false _ (at-if1 .if1 .left) in
     let o : Octets m = λ k. omega (arith, at-slice-known .slice-known .given k) in
-    let g = at-i .i .given in
-    let s : seatAt m (a .ca) ≡ Here (g .0 .0) (g .0 .1 .0) (g .0 .1 .1 .0) = sym (at-seat-at .seat-at .ensures) ∙ g .1 in
-    let z = out-done m w (a .ca) (a .ioa) o (g .0 .0) (g .0 .1 .0) (g .0 .1 .1 .0) s _ (sym (at-find .find .ensures) ∙ at-at .at .given .1) in
+    let s = sym (at-seat-at .seat-at .ensures) ∙ at-i .i .given .1 in
+    let z = out-done m w (a .ca) (a .ioa) o _ _ _ s _ (sym (at-find .find .ensures) ∙ at-at .at .given .1) in
     (c .reply-of4 .ensures ∙ z .0, at-take-out .take-out .ensures ∙ z .1)
 
 pub unregister-point-spec : {M : Type 1} → statement M

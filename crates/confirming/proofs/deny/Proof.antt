@@ -3,7 +3,7 @@ use mathlib.Core.Bool.{true}
 use denote.Ref.{now}
 use Rattle.asdu.proofs.Lengths.{length-confirmation}
 use Rattle.answers.specs.System.{denied}
-use Rattle.answers.proofs.Ends.{sends-nothing, sends-all}
+use Rattle.answers.proofs.Ends.{one-nothing, one-all}
 use borrow.Author.Needs.{needs}
 use native.Mathlib.Omega.{arith}
 use Rattle.confirming.proofs.deny.Statement.{statement}
@@ -23,7 +23,7 @@ returns c =
     let start = c .before .before .before .before .before in
     let a = start .args in
     let l = length-confirmation (a .command) (now (a .asdu)) 7 true (start .pre .1) in
-    rw (c .nothing .ensures) (sends-nothing (denied (a .command) (now (a .asdu))) (now (a .answer)) (omega arith))
+    rw (c .nothing .ensures) (one-nothing (denied (a .command) (now (a .asdu))) (now (a .answer)) (omega arith))
 
 put-confirmation-requires : tie.Need-put-confirmation-requires
 put-confirmation-requires c κs =
@@ -44,7 +44,7 @@ returns-2 c =
     let a = start .args in
     let l = length-confirmation (a .command) (now (a .asdu)) 7 true (start .pre .1) in
     let e = c .before .before .before .put-confirmation .ensures in
-    rw (c .given .ensures) (sends-all (denied (a .command) (now (a .asdu))) (now (a .answer)) _ _ (omega arith) (e .0) (e .1))
+    rw (c .given .ensures) (one-all (denied (a .command) (now (a .asdu))) (now (a .answer)) _ _ (omega arith) (e .0) (e .1))
 
 pub deny-spec : {M : Type 1} → statement M
 deny-spec =

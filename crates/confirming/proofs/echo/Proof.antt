@@ -2,7 +2,7 @@
 use denote.Ref.{now}
 use Rattle.asdu.specs.Confirmation.{echo}
 use Rattle.asdu.proofs.Lengths.{length-echo}
-use Rattle.answers.proofs.Ends.{sends-nothing, sends-all}
+use Rattle.answers.proofs.Ends.{one-nothing, one-all}
 use borrow.Author.Needs.{needs}
 use native.Mathlib.Omega.{arith}
 use Rattle.confirming.proofs.echo.Statement.{statement}
@@ -16,7 +16,7 @@ returns c =
     let start = c .before .before .before .before in
     let a = start .args in
     let l = length-echo (a .command) (now (a .asdu)) 7 (a .negative) (start .pre) in
-    rw (c .nothing .ensures) (sends-nothing (echo (a .command) (now (a .asdu)) 7 (a .negative)) (now (a .answer)) (omega arith))
+    rw (c .nothing .ensures) (one-nothing (echo (a .command) (now (a .asdu)) 7 (a .negative)) (now (a .answer)) (omega arith))
 
 put-echo-requires : tie.Need-put-echo-requires
 put-echo-requires c κs =
@@ -37,7 +37,7 @@ returns-2 c =
     let a = start .args in
     let l = length-echo (a .command) (now (a .asdu)) 7 (a .negative) (start .pre) in
     let e = c .before .before .before .put-echo .ensures in
-    rw (c .given .ensures) (sends-all (echo (a .command) (now (a .asdu)) 7 (a .negative)) (now (a .answer)) _ _ (omega arith) (e .0) (e .1))
+    rw (c .given .ensures) (one-all (echo (a .command) (now (a .asdu)) 7 (a .negative)) (now (a .answer)) _ _ (omega arith) (e .0) (e .1))
 
 pub echo-spec : {M : Type 1} → statement M
 echo-spec = tie.close (tie.spec nothing-requires returns put-echo-requires given-requires same-length returns-2)

@@ -2,7 +2,7 @@
 use borrow.Author.Needs.{needs}
 use native.Mathlib.Omega.{arith}
 use mathlib.Core.Path.{_≡_, refl, ap, _∙_}
-use Prim.Native.Nat.{ℕ, _-_}
+use Prim.Native.Nat.{ℕ}
 use lib.ListN.{length, replicate, length-replicate}
 use denote.Ref.{now}
 use Rattle.octets.specs.Over.{over}
@@ -101,7 +101,7 @@ put-report-requires c κs =
     let k = z .ensures .1 ∙ t .size in
     let e = ap length (t .octets) in
     let room = c .before .before .before .before .if1 .left in
-    (start .pre .4, start .pre .2, (omega (arith, h), omega (arith, x), omega (arith, n), t .chains), omega (arith, k, e, room))
+    (start .pre .4, (start .pre .2, omega (arith, h), omega (arith, x), omega (arith, n), t .chains), omega (arith, k, e, room))
 
 same-length : tie.Need-same-length
 same-length c = search needs

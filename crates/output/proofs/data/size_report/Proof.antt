@@ -1,9 +1,9 @@
 -- The places are put in the order of an answer and linked in it; the counts of the chains give the size.
 use borrow.Author.Needs.{needs}
 use native.Mathlib.Omega.{arith}
-use mathlib.Core.Path.{_≡_, ap, _∙_, subst}
+use mathlib.Core.Path.{ap, _∙_, subst}
 use mathlib.Core.List.{List}
-use Prim.Native.Nat.{ℕ, _-_}
+use Prim.Native.Nat.{ℕ}
 use lib.ListN.{length, take, replicate, length-replicate}
 use denote.Ref.{now}
 use Rattle.chains.specs.Chain.{slotOn, LinkedBy}

@@ -1,7 +1,6 @@
 -- What is written at the front of the lent part is written from `o` on.
 use borrow.Author.Needs.{needs}
 use native.Mathlib.Omega.{arith}
-use Prim.Native.Nat.{_-_}
 use denote.Ref.{now}
 use Rattle.octets.proofs.Laws.{lent-over}
 use Rattle.asdu.specs.Header.{asduOctets}
