@@ -17,7 +17,7 @@ use Rattle.limits.proofs.Outcomes.{not-both}
 use Rattle.limits.proofs.Sizes.{point-at-most}
 use Rattle.octets.specs.Number.{zeros}
 use Rattle.model.specs.declared.Point.{Point}
-use Rattle.model.specs.Place.{valid, pointOk, isCounter}
+use Rattle.model.specs.Place.{withValue, valid, pointOk, isCounter}
 use Rattle.model.specs.Request.{element}
 use Rattle.model.proofs.Requests.{length-element, element-zeros}
 use Rattle.table.specs.Table.{rising}
@@ -89,7 +89,7 @@ pub updated-ok : (u : Update) (q p : Point) → length (u .value) ≡ 12 → poi
 unfolding updated pointOk valid
 updated-ok u q p w o e = by-test (eqb (q .kind) (u .kind)) e
   where
-    new-ok : pointOk (record { kind = q .kind; ioa = q .ioa; group = q .group; counter = q .counter; value = element (pointOctets (q .kind)) (u .value) }) ≡ true
+    new-ok : pointOk (withValue (element (pointOctets (q .kind)) (u .value)) q) ≡ true
     new-ok =
         let o1 = both _ _ o in
         let o2 = both _ _ (o1 .1) in
@@ -101,10 +101,10 @@ updated-ok u q p w o e = by-test (eqb (q .kind) (u .kind)) e
         (join (v1 .0) (join (v2 .0) (join (v3 .0) (join (v4 .0) (element-zeros (u .value) (pointOctets (q .kind)) w (point-at-most (q .kind))))))))
 
     by-test : (b : Bool)
-        → pick b (some (record { kind = q .kind; ioa = q .ioa; group = q .group; counter = q .counter; value = element (pointOctets (q .kind)) (u .value) })) none ≡ some p
+        → pick b (some (withValue (element (pointOctets (q .kind)) (u .value)) q)) none ≡ some p
         → (pointOk p ≡ true) × (p .ioa ≡ q .ioa)
     by-test true f =
-        let s : (record { kind = q .kind; ioa = q .ioa; group = q .group; counter = q .counter; value = element (pointOctets (q .kind)) (u .value) }) ≡ p = cc in
+        let s : (withValue (element (pointOctets (q .kind)) (u .value)) q) ≡ p = cc in
         (ap pointOk (sym s) ∙ new-ok, ap (λ (x : Point). x .ioa) (sym s))
     by-test false f = let z : _≡_ {A = ℕ} 0 1 = cc in absurd (omega arith)
 

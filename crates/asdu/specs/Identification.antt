@@ -1,13 +1,6 @@
 -- Type identifications that document 01 names one by one: IEC 60870-5-101, 7.2.1.
 use Prim.Native.Nat.{ℕ}
 
--- Integrated totals, without and with a time: the counters.
-abbrev pub integratedTotals : ℕ
-integratedTotals = 15
-
-abbrev pub timedIntegratedTotals : ℕ
-timedIntegratedTotals = 37
-
 abbrev pub endOfInitialization : ℕ
 endOfInitialization = 70
 

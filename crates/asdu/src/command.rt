@@ -1,4 +1,5 @@
 // A command as it is read from its octets, and its first object.
+use limits::outcome::Outcome;
 use limits::size::ADDRESS_OCTETS;
 use limits::size::CONTROL_OCTETS;
 use limits::size::Class;
@@ -7,7 +8,7 @@ ghost use mathlib.Core.Path.{_≡_};
 ghost use Prim.Native.Nat.{_+_, _*_, _≤_};
 ghost use lib.ListN.{length};
 ghost use Rattle.limits.specs.Size.{classOf, headerOctets};
-ghost use Rattle.asdu.specs.Command.{isSystem, isProcess, serves, lengthOk, objectAt, wholeObjects, commandIn, readAs, firstObject};
+ghost use Rattle.asdu.specs.Command.{isSystem, isProcess, serves, lengthOk, objectAt, wholeObjects, commandIn, readAs, outcomeOf, firstObject};
 
 // Which of the two entries asks.
 pub enum Entry {
@@ -32,6 +33,20 @@ pub enum Reading {
     TypeNotServed,
     ObjectsNotWhole,
     Parsed(Command),
+}
+
+impl Reading {
+    // What answers a reading that is no command.
+    pub fn outcome(self) -> Outcome
+        ensures { λ r. ⌜ r ≡ outcomeOf self ⌝ }
+    {
+        match self {
+            Reading::LengthOutOfRange => Outcome::Malformed,
+            Reading::TypeNotServed => Outcome::Silent,
+            Reading::ObjectsNotWhole => Outcome::Malformed,
+            Reading::Parsed(_) => Outcome::Done,
+        }
+    }
 }
 
 // A command's first object: its address and where its element lies; or none.

@@ -1,8 +1,4 @@
-// Type identifications that the rules name one by one: IEC 60870-5-101, 7.2.1, under the names of `types_id.rs`.
-
-pub const M_IT_NA_1: u8 = 15;
-
-pub const M_IT_TB_1: u8 = 37;
+// Type identifications that the rules name one by one: IEC 60870-5-101, 7.2.1, under the names of `types_id.rs`. The counters' stand in `model`.
 
 pub const M_EI_NA_1: u8 = 70;
 

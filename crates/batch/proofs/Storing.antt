@@ -10,6 +10,7 @@ use Rattle.limits.specs.Test.{total}
 use Rattle.octets.specs.Over.{over}
 use Rattle.octets.specs.Number.{two, pair, Octets}
 use Rattle.octets.proofs.Laws.{over-at}
+use Rattle.table.specs.Change.{withStations}
 use Rattle.table.specs.Table.{Station, Table, held, planOk, bodies, entries, head, image}
 use Rattle.table.specs.Memory.{tableOf}
 use Rattle.table.proofs.Stations.{length-bodies}
@@ -19,24 +20,27 @@ use Rattle.table.proofs.Cut.{head-over}
 use Rattle.registry.specs.Effect.{holding}
 use Rattle.registry.specs.Registry.{roomTests}
 use Rattle.registry.specs.History.{holdingOf}
-use Rattle.registry.proofs.Batches.{Ready, own-tests-ready}
+use Rattle.registry.proofs.Batches.{Ready, own-tests-ready, room-settings}
 use Rattle.records.specs.Records.{recordsIn, requestsIn}
 use Rattle.layout.specs.Layout.{mostPlaces, mostStations, pointsOffset, capacityIn, stationsIn, pointsIn, stationsFrom, sizeIn}
 use Rattle.sorting.specs.Sorted.{All, sorted}
-use Rattle.merging.specs.Merge.{merged, placesIn, Placed, withPlaces, placesOctets, Rises, placedFrom, numbersFrom, placedOf, Fits}
+use Rattle.merging.specs.Merge.{merged, firstPlaces, Placed, withPlaces, placesOctets, Rises, placedFrom, numbersFrom, placedOf, Fits}
 use Rattle.merging.proofs.Joined.{join-sorted}
 use Rattle.batch_room.specs.Room.{holdingWith, TookIn}
-use Rattle.batch.specs.Raise.{Accepted, raised, Raisable}
+use Rattle.batch.specs.Raise.{AllPass, raised, Raisable}
 use Rattle.batch.proofs.Flat.{flat, flat-octets, flat-read, flat-rises}
 use Rattle.batch.proofs.Ordered.{fits-all, apart-all, batch-numbers, batch-places}
 use Rattle.batch.proofs.Raised.{same-stations, raise-entries, raisable-entries}
 
 -- ---- the image, part by part
 
-module _ (k n c : ℕ) (ss ss′ : List Station) (rest : List ℕ) (count : total held ss ≡ n) (more : total held ss′ ≡ n + c) (room : n + c ≤ k) where
+module _ (t : Table) (n c : ℕ) (ss ss′ : List Station) (rest : List ℕ) (count : total held ss ≡ n) (more : total held ss′ ≡ n + c) (room : n + c ≤ t .capacity) where
+  abbrev k : ℕ
+  k = t .capacity
+
   -- all that lies before the stations, with the new places
   front : List ℕ
-  front = head k (length ss) n ++ (bodies ss′ ++ replicate (48 * (k - (n + c))) 0)
+  front = head (t .settings) k (length ss) n ++ (bodies ss′ ++ replicate (48 * (k - (n + c))) 0)
 
   -- it ends where the stations begin
   front-length : length front ≡ 64 + 48 * k
@@ -47,13 +51,13 @@ module _ (k n c : ℕ) (ss ss′ : List Station) (rest : List ℕ) (count : tota
       let lb : length B ≡ 48 * (n + c) = length-bodies ss′ ∙ ap (λ (x : ℕ). 48 * x) more in
       let lz : length Z ≡ 48 * (k - (n + c)) = length-replicate (48 * (k - (n + c))) 0 in
       let l : length (B ++ Z) ≡ length B + length Z = length-append B Z in
-      length-append (head k (length ss) n) (B ++ Z) ∙ (omega arith)
+      length-append (head (t .settings) k (length ss) n) (B ++ Z) ∙ (omega arith)
 
   -- The new places written over the old ones and the unused places that they take.
-  places-over : over (image (record { capacity = k; stations = ss }) ++ rest) 64 (bodies ss′) ≡ front ++ (entries ss ++ rest)
+  places-over : over (image (withStations ss t) ++ rest) 64 (bodies ss′) ≡ front ++ (entries ss ++ rest)
   unfolding front image
   places-over =
-      let H : List ℕ = head k (length ss) n in
+      let H : List ℕ = head (t .settings) k (length ss) n in
       let B : List ℕ = bodies ss in
       let B′ : List ℕ = bodies ss′ in
       let Z : List ℕ = replicate (48 * c) 0 in
@@ -74,12 +78,12 @@ module _ (k n c : ℕ) (ss ss′ : List Station) (rest : List ℕ) (count : tota
       ∙ simp append-assoc
     where
       image-of : ℕ → List ℕ → List ℕ
-      image-of x z = (head k (length ss) x ++ (bodies ss ++ (z ++ entries ss))) ++ rest
+      image-of x z = (head (t .settings) k (length ss) x ++ (bodies ss ++ (z ++ entries ss))) ++ rest
 
   -- Places, stations and the number of points written: the image of the table that holds more.
   pub stored-image : (taken : List ℕ) → map holdingOf ss′ ≡ holdingWith ss taken 0
-      → over (raised (over (image (record { capacity = k; stations = ss }) ++ rest) 64 (bodies ss′)) taken 0 (64 + 48 * k) (length ss)) 8 (pair (n + c))
-      ≡ image (record { capacity = k; stations = ss′ }) ++ rest
+      → over (raised (over (image (withStations ss t) ++ rest) 64 (bodies ss′)) taken 0 (64 + 48 * k) (length ss)) 8 (pair (n + c))
+      ≡ image (withStations ss′ t) ++ rest
   unfolding front image
   stored-image taken e =
       let S : ℕ = length ss in
@@ -88,14 +92,14 @@ module _ (k n c : ℕ) (ss ss′ : List Station) (rest : List ℕ) (count : tota
       let E : List ℕ = entries ss′ in
       let s : S ≡ length ss′ = sym (same-stations ss ss′ taken 0 e) in
       ap (λ (x : List ℕ). over (raised x taken 0 (64 + 48 * k) S) 8 (pair (n + c))) places-over
-      ∙ ap (λ (x : List ℕ). over x 8 (pair (n + c))) (raise-entries front rest ss ss′ taken 0 (64 + 48 * k) front-length e ∙ append-assoc (head k S n) (B ++ Z) (E ++ rest))
-      ∙ head-over k S n (n + c) ((B ++ Z) ++ (E ++ rest))
-      ∙ (λ j. head k (s j) (sym more j) ++ ((B ++ replicate (48 * (k - sym more j)) 0) ++ (E ++ rest)))
+      ∙ ap (λ (x : List ℕ). over x 8 (pair (n + c))) (raise-entries front rest ss ss′ taken 0 (64 + 48 * k) front-length e ∙ append-assoc (head (t .settings) k S n) (B ++ Z) (E ++ rest))
+      ∙ head-over (t .settings) k S n (n + c) ((B ++ Z) ++ (E ++ rest))
+      ∙ (λ j. head (t .settings) k (s j) (sym more j) ++ ((B ++ replicate (48 * (k - sym more j)) 0) ++ (E ++ rest)))
       ∙ simp append-assoc
 
   -- What raising the stations' numbers asks.
   pub stored-raisable : (taken : List ℕ) (low : ℕ) → k ≤ 4096 → map holdingOf ss′ ≡ holdingWith ss taken 0 → planOk k low ss′ ≡ true
-      → Raisable (over (image (record { capacity = k; stations = ss }) ++ rest) 64 (bodies ss′)) taken 0 (64 + 48 * k) (length ss)
+      → Raisable (over (image (withStations ss t) ++ rest) 64 (bodies ss′)) taken 0 (64 + 48 * k) (length ss)
   stored-raisable taken low h e p =
       subst (λ (x : List ℕ). Raisable x taken 0 (64 + 48 * k) (length ss)) (sym places-over) (raisable-entries front rest k low ss ss′ taken 0 (64 + 48 * k) front-length h p e)
 
@@ -111,14 +115,14 @@ pub record Storable (m r taken : List ℕ) : Type 0 where
   pub length-is : sizeIn m ≤ length m
   pub capacity : capacityIn m ≤ mostPlaces
   pub free : pointsIn m + recordsIn r ≤ capacityIn m
-  pub rises : Rises 0 (placesIn m (pointsIn m))
+  pub rises : Rises 0 (firstPlaces m (pointsIn m))
   pub records : All (Fits r) (numbersFrom r 0 (recordsIn r))
   pub raisable : Raisable (allMerged m r) taken 0 (stationsFrom m) (stationsIn m)
   pub memory : over (raised (allMerged m r) taken 0 (stationsFrom m) (stationsIn m)) pointsOffset (pair (pointsIn m + recordsIn r))
       ≡ holding m (tableOf m) (roomTests (tableOf m) 0 (requestsIn r) .after)
 
 -- An accepted batch can be stored.
-pub storable : (m r taken : List ℕ) → Octets m → Accepted m r → TookIn (tableOf m) (requestsIn r) taken → Storable m r taken
+pub storable : (m r taken : List ℕ) → Octets m → AllPass m r → TookIn (tableOf m) (requestsIn r) taken → Storable m r taken
 storable m r taken o (w, own, room) took =
     let t : Table = tableOf m in
     let T : Table = roomTests t 0 (requestsIn r) .after in
@@ -148,8 +152,8 @@ storable m r taken o (w, own, room) took =
     let whole : 64 + 48 * two m 4 + 8 * two m 6 ≤ length m = passed m w .top .room in
     let room-records : 24 * (0 + c) ≤ length r = omega arith in
     let raises : Raisable (over (image t ++ rest) 64 (bodies (T .stations))) taken 0 (64 + 48 * t .capacity) (length (t .stations)) =
-    stored-raisable (t .capacity) (total held (t .stations)) c (t .stations) (T .stations) rest refl more fits taken 1 high lines (ap (λ (x : ℕ). planOk x 1 (T .stations)) (sym cap) ∙ n .0 .plan) in
-    let image-is = stored-image (t .capacity) (total held (t .stations)) c (t .stations) (T .stations) rest refl more fits taken lines in
+    stored-raisable t (total held (t .stations)) c (t .stations) (T .stations) rest refl more fits taken 1 high lines (ap (λ (x : ℕ). planOk x 1 (T .stations)) (sym cap) ∙ n .0 .plan) in
+    let image-is = stored-image t (total held (t .stations)) c (t .stations) (T .stations) rest refl more fits taken lines in
     record {
       stations = passed m w .top .s-high;
       length-is = whole;
@@ -162,5 +166,5 @@ storable m r taken o (w, own, room) took =
           (subst (λ (x : List ℕ). Raisable x taken 0 (64 + 48 * t .capacity) (length (t .stations))) (sym new) raises));
       memory = (λ j. over (raised (new j) taken 0 (64 + 48 * k4 j) (k6 j)) 8 (pair (k8 j + c)))
           ∙ image-is
-          ∙ (λ j. image (record { capacity = sym cap j; stations = T .stations }) ++ rest);
+          ∙ (λ j. image (record { settings = sym (room-settings t 0 (requestsIn r)) j; capacity = sym cap j; stations = T .stations }) ++ rest);
     }

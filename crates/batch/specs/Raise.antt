@@ -24,6 +24,6 @@ Raisable m taken i at zero = Unit
 Raisable m taken i at (suc n) = (heldAt m at + getD taken i 0 < 65536) × Raisable m taken (i + 1) (at + stationSize) n
 
 -- Every point of a batch has passed its own tests and the share rule.
-abbrev pub Accepted : List ℕ → List ℕ → Type 0
-Accepted m r =
+abbrev pub AllPass : List ℕ → List ℕ → Type 0
+AllPass m r =
     (wellFormed m ≡ true) × (ownTests (tableOf m) [] 0 (requestsIn r) .outcome ≡ Done) × (roomTests (tableOf m) 0 (requestsIn r) .outcome ≡ Done)

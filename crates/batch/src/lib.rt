@@ -18,7 +18,7 @@ ghost use Rattle.table.specs.Memory.{tableOf};
 ghost use Rattle.records.specs.Records.{requestsIn};
 ghost use Rattle.merging.specs.Merge.{SortedNumbers};
 ghost use Rattle.batch_room.specs.Room.{TookIn};
-ghost use Rattle.batch.specs.Raise.{raised, Raisable, Accepted};
+ghost use Rattle.batch.specs.Raise.{raised, Raisable, AllPass};
 ghost use Rattle.replies.specs.Replies.{Replies};
 ghost use Rattle.registry.specs.Effect.{holding};
 ghost use Rattle.registry.specs.Registry.{roomTests, registeringAll};
@@ -39,7 +39,7 @@ fn raise_held(m: &mut [u8], taken: &[u16; MOST_STATIONS], at: usize, n: usize)
 
 // Stores the points of all records, which have passed every test; `taken` has what each station takes in, `numbers` the records in order.
 fn store_all(m: &mut [u8], records: &[u8], taken: &[u16; MOST_STATIONS], numbers: &[u64])
-    requires { ⌜ Accepted (now m) (now records) × TookIn (tableOf (now m)) (requestsIn (now records)) (now taken) × (mostPlaces ≤ length (now numbers)) × SortedNumbers (now records) (now numbers) ⌝ }
+    requires { ⌜ AllPass (now m) (now records) × TookIn (tableOf (now m)) (requestsIn (now records)) (now taken) × (mostPlaces ≤ length (now numbers)) × SortedNumbers (now records) (now numbers) ⌝ }
     ensures { λ _. ⌜ now (m .exit) ≡ holding (now (m .entry)) (tableOf (now (m .entry))) (roomTests (tableOf (now (m .entry))) 0 (requestsIn (now (records .entry))) .after) ⌝ }
 {
     let k = layout::capacity_of(m);

@@ -21,7 +21,8 @@ use Rattle.model.specs.declared.Point.{Point}
 use Rattle.model.specs.declared.Request.{Request}
 use Rattle.model.specs.Request.{pointOf, requestsAt}
 use Rattle.table.specs.Table.{Station, Table, held, unmet, shareOf}
-use Rattle.table.specs.Memory.{pointsAt, stationsAt, tableOf, sumAt, heldAt, unmetAt}
+use Rattle.table.specs.Memory.{pointsAt, stationsAt, tableOf, sumAt, unmetAt}
+use Rattle.layout.specs.Layout.{heldAt}
 use Rattle.table.specs.Change.{stationOf, inStation, withPoints, changed, insertIn, added}
 use Rattle.table.proofs.Points.{length-pointsAt}
 use Rattle.table.proofs.Stations.{sum-held, sum-unmet}

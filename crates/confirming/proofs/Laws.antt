@@ -12,7 +12,7 @@ use borrow.Author.Tests.{ltb-true, ltb-false}
 use Rattle.limits.specs.Test.{pick}
 use Rattle.asdu.specs.declared.command.Command.{Command}
 use Rattle.asdu.specs.Header.{Asdu, asduOctets, wire}
-use Rattle.asdu.proofs.Laws.{wire-one, wire-append}
+use Rattle.asdu.proofs.Laws.{wire-between}
 use Rattle.asdu.proofs.Lengths.{length-confirmation}
 use Rattle.report.specs.declared.Selection.{Selection}
 use Rattle.output.specs.declared.data.Written.the-variants.{Octets as Wrote, Short}
@@ -94,10 +94,6 @@ data-full out before after k xs e = by-test (ltb (length out) (before + (length 
 
 -- ---- the whole answer
 
-wire-more : (a : Asdu) (xs : List Asdu) → wire (a ∷ xs) ≡ asduOctets a ++ wire xs
-unfolding wire joined
-wire-more a xs = refl
-
 -- What `put_data` writes of the reach of a CA is the report of the points that the CA speaks of.
 pub data-is : (terms : Terms) (types : List ℕ) (sel : Selection) (m : List ℕ) (ca : ℕ) (r : Reach) → r ≡ reachOf m ca → Octets m → wellFormed m ≡ true
     → dataOf terms types sel m r ≡ report (terms .limit) types (terms .cause) (terms .ca) (selected (selects sel) (pointsFor ca (tableOf m .stations)))
@@ -117,8 +113,7 @@ module _ (t : Table) (c : Command) (m types : List ℕ) (cause : ℕ) (sel : Sel
   -- the octets of the whole, part by part
   reported-octets : wire (reported t c m types cause sel) ≡ asduOctets (confirmed c m) ++ (asked ++ asduOctets (terminated c m))
   unfolding reported
-  reported-octets =
-      wire-more (confirmed c m) _ ∙ ap (λ (x : List ℕ). asduOctets (confirmed c m) ++ x) (wire-append _ (terminated c m ∷ []) ∙ ap (λ (x : List ℕ). asked ++ x) (wire-one (terminated c m)))
+  reported-octets = wire-between (confirmed c m) (report (limitOf t) types cause (c .ca) (selected (selects sel) (pointsFor (c .ca) (t .stations)))) (terminated c m)
 
   length-reported : size (reported t c m types cause sel) ≡ around + (length asked + around)
   length-reported =

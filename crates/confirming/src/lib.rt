@@ -94,7 +94,14 @@ pub fn report(
         ca: command.ca,
     };
     let Written::Octets(octets) = output::data::put_data(
-        answer, before, before, table, reach, selection, types, terms,
+        answer,
+        before,
+        before,
+        table,
+        reach,
+        selection,
+        types,
+        terms,
     ) else {
         return Answered::nothing(Outcome::AnswerShort);
     };

@@ -15,7 +15,7 @@ use Rattle.model.specs.declared.Point.{Point}
 use Rattle.model.specs.Place.{placeOf}
 use Rattle.table.specs.Table.{Station, Table, held, bodies, placesOf, entries, eight, head, image}
 use Rattle.table.specs.Memory.{parse}
-use Rattle.table.specs.Change.{seekIn, insertIn, withPoints, changed, added}
+use Rattle.table.specs.Change.{withStations, seekIn, insertIn, withPoints, changed, added}
 use Rattle.table.proofs.Points.{length-places}
 use Rattle.table.proofs.Stations.{length-bodies, length-entries}
 use Rattle.table.proofs.Parse.{Good, good-is, Laid, laid, parse-sound}
@@ -52,8 +52,11 @@ put-at H B P Q D N Z E S T R L T′ from to at ef et en el ea eT =
 
 -- ---- the image
 
-module _ (k : ℕ) (before : List Station) (s : Station) (after : List Station) (p : Point) (n : ℕ) (rest : List ℕ)
-    (count : total held (before ++ (s ∷ after)) ≡ n) (room : n < k) where
+module _ (t : Table) (before : List Station) (s : Station) (after : List Station) (p : Point) (n : ℕ) (rest : List ℕ)
+    (count : total held (before ++ (s ∷ after)) ≡ n) (room : n < t .capacity) where
+  abbrev k : ℕ
+  k = t .capacity
+
   below : List Point
   below = take (seekIn (p .ioa) (s .points)) (s .points)
 
@@ -61,8 +64,8 @@ module _ (k : ℕ) (before : List Station) (s : Station) (after : List Station) 
   above = drop (seekIn (p .ioa) (s .points)) (s .points)
 
   -- both images, cut at the station and at the point's place in the order
-  cut : image (record { capacity = k; stations = before ++ (s ∷ after) }) ++ rest
-      ≡ head k (length before + suc (length after)) n ++ (bodies before ++ ((placesOf (s .ca) below ++ placesOf (s .ca) above) ++ (bodies after
+  cut : image (withStations (before ++ (s ∷ after)) t) ++ rest
+      ≡ head (t .settings) k (length before + suc (length after)) n ++ (bodies before ++ ((placesOf (s .ca) below ++ placesOf (s .ca) above) ++ (bodies after
       ++ ((replicate 48 0 ++ replicate (48 * (k - (n + 1))) 0)
       ++ (entries before ++ ((six (s .ca) (s .reservation) (s .ceiling) ++ pair (held s)) ++ (entries after ++ rest)))))))
   unfolding six below above
@@ -74,11 +77,11 @@ module _ (k : ℕ) (before : List Station) (s : Station) (after : List Station) 
       ap (λ (x : ℕ). replicate {A = ℕ} x 0) f ∙ sym (replicate-append-replicate 48 (48 * (k - (n + 1))) 0) in
       let ps : placesOf (s .ca) (s .points) ≡ placesOf (s .ca) below ++ placesOf (s .ca) above =
       ap (placesOf (s .ca)) (sym (take-append-drop (seekIn (p .ioa) (s .points)) (s .points))) ∙ places-append (s .ca) below above in
-      image-at k before s after n rest count
-      ∙ (λ j. head k S n ++ (bodies before ++ (ps j ++ (bodies after ++ (z j ++ (entries before ++ (F ++ (entries after ++ rest))))))))
+      image-at t before s after n rest count
+      ∙ (λ j. head (t .settings) k S n ++ (bodies before ++ (ps j ++ (bodies after ++ (z j ++ (entries before ++ (F ++ (entries after ++ rest))))))))
 
-  cut-added : image (record { capacity = k; stations = before ++ (withPoints (insertIn p) s ∷ after) }) ++ rest
-      ≡ head k (length before + suc (length after)) (n + 1) ++ (bodies before
+  cut-added : image (withStations (before ++ (withPoints (insertIn p) s ∷ after)) t) ++ rest
+      ≡ head (t .settings) k (length before + suc (length after)) (n + 1) ++ (bodies before
       ++ ((placesOf (s .ca) below ++ (placeOf (s .ca) p ++ placesOf (s .ca) above)) ++ (bodies after
       ++ (replicate (48 * (k - (n + 1))) 0
       ++ (entries before ++ ((six (s .ca) (s .reservation) (s .ceiling) ++ pair (held s + 1)) ++ (entries after ++ rest)))))))
@@ -91,14 +94,14 @@ module _ (k : ℕ) (before : List Station) (s : Station) (after : List Station) 
       let b : total held (before ++ (s′ ∷ after)) ≡ total held before + (length (insertIn p (s .points)) + total held after) = held-at before s′ after in
       let ps : placesOf (s .ca) (insertIn p (s .points)) ≡ placesOf (s .ca) below ++ (placeOf (s .ca) p ++ placesOf (s .ca) above) =
       places-at (s .ca) below p above in
-      image-at k before s′ after (n + 1) rest (omega arith)
-      ∙ (λ j. head k S (n + 1) ++ (bodies before ++ (ps j ++ (bodies after ++ (replicate (48 * (k - (n + 1))) 0
+      image-at t before s′ after (n + 1) rest (omega arith)
+      ∙ (λ j. head (t .settings) k S (n + 1) ++ (bodies before ++ (ps j ++ (bodies after ++ (replicate (48 * (k - (n + 1))) 0
       ++ (entries before ++ (eight (s .ca) (s .reservation) (s .ceiling) (h j) ++ (entries after ++ rest))))))))
 
   placed-cut : (at : ℕ) → at ≡ 64 + 48 * (total held before + seekIn (p .ioa) (s .points))
-      → over (over (putIn (image (record { capacity = k; stations = before ++ (s ∷ after) }) ++ rest) at (64 + 48 * n) (placeOf (s .ca) p))
+      → over (over (putIn (image (withStations (before ++ (s ∷ after)) t) ++ rest) at (64 + 48 * n) (placeOf (s .ca) p))
       (64 + 48 * k + 8 * length before + 6) (pair (held s + 1))) 8 (pair (n + 1))
-      ≡ image (record { capacity = k; stations = before ++ (withPoints (insertIn p) s ∷ after) }) ++ rest
+      ≡ image (withStations (before ++ (withPoints (insertIn p) s ∷ after)) t) ++ rest
   unfolding six below above
   placed-cut at e =
       let S : ℕ = length before + suc (length after) in
@@ -116,11 +119,11 @@ module _ (k : ℕ) (before : List Station) (s : Station) (after : List Station) 
       let lz : length Z ≡ 48 * (k - (n + 1)) = length-replicate (48 * (k - (n + 1))) 0 in
       let lp : length P ≡ 48 * j = length-places (s .ca) below ∙ ap (λ (x : ℕ). 48 * x) (length-take-le j (s .points) hj) in
       let lq : length Q ≡ 48 * (held s - j) = length-places (s .ca) above ∙ ap (λ (x : ℕ). 48 * x) (length-drop j (s .points)) in
-      let moved = put-at (head k S n) (bodies before) P Q (bodies after) (replicate 48 0) Z (entries before) six′ (pair (held s)) R
+      let moved = put-at (head (t .settings) k S n) (bodies before) P Q (bodies after) (replicate 48 0) Z (entries before) six′ (pair (held s)) R
       (placeOf (s .ca) p) (pair (held s + 1)) at (64 + 48 * n) (64 + 48 * k + 8 * length before + 6) (omega arith) (omega arith) refl refl (omega arith) refl in
       ap (λ (l : List ℕ). over (over (putIn l at (64 + 48 * n) (placeOf (s .ca) p)) (64 + 48 * k + 8 * length before + 6) (pair (held s + 1))) 8 (pair (n + 1))) cut
       ∙ ap (λ (l : List ℕ). over l 8 (pair (n + 1))) moved
-      ∙ head-over k S n (n + 1) (bodies before ++ ((P ++ (placeOf (s .ca) p ++ Q)) ++ (bodies after ++ (Z ++ (entries before ++ ((six′ ++ pair (held s + 1)) ++ R))))))
+      ∙ head-over (t .settings) k S n (n + 1) (bodies before ++ ((P ++ (placeOf (s .ca) p ++ Q)) ++ (bodies after ++ (Z ++ (entries before ++ ((six′ ++ pair (held s + 1)) ++ R))))))
       ∙ sym cut-added
 
 -- Putting a point in at its place in a station makes of a table's image the image of the table with the point.
@@ -132,11 +135,11 @@ insert-image t rest ca p s w i h at g room z =
     let K : ℕ = t .capacity in
     let n : ℕ = total held (t .stations) in
     let l : Laid m t = laid t rest g in
-    let same : image t ≡ image (record { capacity = K; stations = w .before ++ (s ∷ w .after) }) = λ j. image (record { capacity = K; stations = w .split j }) in
+    let same : image t ≡ image (withStations (w .before ++ (s ∷ w .after)) t) = λ j. image (withStations (w .split j) t) in
     (λ j. over (over (putIn m at (64 + 48 * l .is-n j) (placeOf (sym (w .is-ca) j) p)) (64 + 48 * l .is-k j + 8 * z .index j + 6) (pair (z .count j + 1))) 8 (pair (l .is-n j + 1)))
     ∙ (λ j. over (over (putIn (same j ++ rest) at (64 + 48 * n) (placeOf (s .ca) p)) (64 + 48 * K + 8 * length (w .before) + 6) (pair (held s + 1))) 8 (pair (n + 1)))
-    ∙ placed-cut K (w .before) s (w .after) p n rest (ap (total held) (sym (w .split))) room at (z .place)
-    ∙ (λ j. image (record { capacity = K; stations = sym (stations-split t ca (insertIn p) s w) j }) ++ rest)
+    ∙ placed-cut t (w .before) s (w .after) p n rest (ap (total held) (sym (w .split))) room at (z .place)
+    ∙ (λ j. image (withStations (sym (stations-split t ca (insertIn p) s w) j) t) ++ rest)
 
 -- The same of a memory that holds a table: what lies past the table's octets stays.
 pub insert-parsed : (m : List ℕ) (t : Table) (ca : ℕ) (p : Point) (s : Station) (w : Found ca (t .stations) s) (i h at : ℕ) → Octets m → parse m ≡ some t

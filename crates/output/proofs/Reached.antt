@@ -12,7 +12,8 @@ use Rattle.octets.specs.Number.{two, Octets}
 use Rattle.asdu.specs.Header.{globalAddress}
 use Rattle.model.specs.declared.Point.{Point}
 use Rattle.model.specs.Place.{pointAt}
-use Rattle.table.specs.Memory.{pointsAt, stationsAt, sumAt, heldAt, tableOf, wellFormed}
+use Rattle.table.specs.Memory.{pointsAt, stationsAt, sumAt, tableOf, wellFormed}
+use Rattle.layout.specs.Layout.{heldAt}
 use Rattle.table.proofs.Parse.{Passed, passed}
 use Rattle.report.specs.declared.Reach.{Reach}
 use Rattle.report.specs.Packing.{joined}

@@ -16,8 +16,8 @@ use Rattle.among.specs.declared.Search.{Search}
 use Rattle.point_lists.specs.declared.Later.{Later}
 
 -- more points than a slice can have
-abbrev pub many : ℕ
-many = 4611686018427387904
+abbrev pub tooMany : ℕ
+tooMany = 4611686018427387904
 
 -- a fault of a point alone, where its address may stand earlier: 16 comes after 11 to 15 and before 17
 unfoldable pub withTwice : Outcome → Bool → Outcome
@@ -38,7 +38,7 @@ searchFor s p = record { ca = p .ca; ioa = p .ioa; left = s .count; found = fals
 -- one point passed more
 unfoldable pub passed : Later → Later
 passed s =
-    pick (ltb (s .count) many)
+    pick (ltb (s .count) tooMany)
     (record { count = s .count + 1; outcome = Done; done = false })
     (record { count = s .count; outcome = Done; done = true })
 

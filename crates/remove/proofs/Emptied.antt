@@ -86,7 +86,7 @@ all-taken-out-image t rest g =
     let n : ℕ = total held ss in
     let few : n ≤ K = g .few in
     let l : Laid (image t ++ rest) t = laid t rest g in
-    let H : List ℕ = head K (length ss) n in
+    let H : List ℕ = head (t .settings) K (length ss) n in
     let N : List ℕ = replicate (48 * n) 0 in
     let Z : List ℕ = replicate (48 * (K - n)) 0 in
     let E : List ℕ = entries (map bare ss) in
@@ -106,8 +106,8 @@ all-taken-out-image t rest g =
     (λ j. over (noneHeld (over (image t ++ rest) 64 (replicate (48 * l .is-n j) 0)) (64 + 48 * l .is-k j) (l .is-s j)) 8 (pair 0))
     ∙ ap (λ (x : List ℕ). over (noneHeld x (64 + 48 * K) (length ss)) 8 (pair 0)) cleared
     ∙ ap (λ (x : List ℕ). over x 8 (pair 0)) none
-    ∙ head-over K (length ss) n 0 (N ++ (Z ++ (E ++ rest)))
-    ∙ sym ((λ j. (head K (bare-length ss j) (h0 j) ++ (bare-bodies ss j ++ (zeros j ++ E))) ++ rest) ∙ regroup-zeros (head K (length ss) 0) N Z E rest)
+    ∙ head-over (t .settings) K (length ss) n 0 (N ++ (Z ++ (E ++ rest)))
+    ∙ sym ((λ j. (head (t .settings) K (bare-length ss j) (h0 j) ++ (bare-bodies ss j ++ (zeros j ++ E))) ++ rest) ∙ regroup-zeros (head (t .settings) K (length ss) 0) N Z E rest)
 
 -- The same of a memory that holds a table, with the number of points: what lies past the table's octets stays.
 pub all-taken-out-parsed : (m : List ℕ) (t : Table) → Octets m → parse m ≡ some t

@@ -16,7 +16,7 @@ use Rattle.octets.proofs.Laws.{over-at, lowered-cleared}
 use Rattle.model.specs.declared.Point.{Point}
 use Rattle.model.specs.Place.{placeOf}
 use Rattle.table.specs.Table.{Station, Table, held, rising, placesOf, bodies, eight, entries, head, image}
-use Rattle.table.specs.Change.{withPoints, changed, seekIn, known, removeIn, removed}
+use Rattle.table.specs.Change.{withStations, withPoints, changed, seekIn, known, removeIn, removed}
 use Rattle.table.proofs.Points.{length-places}
 use Rattle.table.proofs.Stations.{length-bodies, length-entries}
 use Rattle.table.specs.Memory.{parse}
@@ -130,8 +130,11 @@ closed-at H B P L Q D Z E S T R T′ from to at ef el et ea eT =
 
 -- ---- the image
 
-module _ (k : ℕ) (before : List Station) (s : Station) (after : List Station) (ioa n : ℕ) (rest : List ℕ)
-    (count : total held (before ++ (s ∷ after)) ≡ n) (few : n ≤ k) (p : Parted ioa (s .points)) where
+module _ (t : Table) (before : List Station) (s : Station) (after : List Station) (ioa n : ℕ) (rest : List ℕ)
+    (count : total held (before ++ (s ∷ after)) ≡ n) (few : n ≤ t .capacity) (p : Parted ioa (s .points)) where
+  abbrev k : ℕ
+  k = t .capacity
+
   one-less : length (removeIn ioa (s .points)) + 1 ≡ held s
   one-less =
       let a : length (removeIn ioa (s .points)) ≡ length (p .below) + length (p .above) = ap length (p .left) ∙ length-append (p .below) (p .above) in
@@ -139,20 +142,20 @@ module _ (k : ℕ) (before : List Station) (s : Station) (after : List Station) 
       omega arith
 
   -- both images, cut at the station
-  cut : image (record { capacity = k; stations = before ++ (s ∷ after) }) ++ rest
-      ≡ head k (length before + suc (length after)) n ++ (bodies before
+  cut : image (withStations (before ++ (s ∷ after)) t) ++ rest
+      ≡ head (t .settings) k (length before + suc (length after)) n ++ (bodies before
       ++ ((placesOf (s .ca) (p .below) ++ (placeOf (s .ca) (p .point) ++ placesOf (s .ca) (p .above))) ++ (bodies after
       ++ (replicate (48 * (k - n)) 0 ++ (entries before ++ ((six (s .ca) (s .reservation) (s .ceiling) ++ pair (held s)) ++ (entries after ++ rest)))))))
   unfolding six
   cut =
       let S : ℕ = length before + suc (length after) in
       let F : List ℕ = eight (s .ca) (s .reservation) (s .ceiling) (held s) in
-      image-at k before s after n rest count
-      ∙ ap (λ (l : List ℕ). head k S n ++ (bodies before ++ (l ++ (bodies after ++ (replicate (48 * (k - n)) 0 ++ (entries before ++ (F ++ (entries after ++ rest))))))))
+      image-at t before s after n rest count
+      ∙ ap (λ (l : List ℕ). head (t .settings) k S n ++ (bodies before ++ (l ++ (bodies after ++ (replicate (48 * (k - n)) 0 ++ (entries before ++ (F ++ (entries after ++ rest))))))))
       (ap (placesOf (s .ca)) (p .split) ∙ places-at (s .ca) (p .below) (p .point) (p .above))
 
-  cut-removed : image (record { capacity = k; stations = before ++ (withPoints (removeIn ioa) s ∷ after) }) ++ rest
-      ≡ head k (length before + suc (length after)) (n - 1) ++ (bodies before
+  cut-removed : image (withStations (before ++ (withPoints (removeIn ioa) s ∷ after)) t) ++ rest
+      ≡ head (t .settings) k (length before + suc (length after)) (n - 1) ++ (bodies before
       ++ ((placesOf (s .ca) (p .below) ++ placesOf (s .ca) (p .above)) ++ (bodies after
       ++ ((replicate 48 0 ++ replicate (48 * (k - n)) 0)
       ++ (entries before ++ ((six (s .ca) (s .reservation) (s .ceiling) ++ pair (held s - 1)) ++ (entries after ++ rest)))))))
@@ -169,14 +172,14 @@ module _ (k : ℕ) (before : List Station) (s : Station) (after : List Station) 
       ap (λ (x : ℕ). replicate {A = ℕ} x 0) f ∙ sym (replicate-append-replicate 48 (48 * (k - n)) 0) in
       let ps : placesOf (s .ca) (removeIn ioa (s .points)) ≡ placesOf (s .ca) (p .below) ++ placesOf (s .ca) (p .above) =
       ap (placesOf (s .ca)) (p .left) ∙ places-append (s .ca) (p .below) (p .above) in
-      image-at k before s′ after (n - 1) rest (omega arith)
-      ∙ (λ j. head k S (n - 1) ++ (bodies before ++ (ps j ++ (bodies after ++ (z j
+      image-at t before s′ after (n - 1) rest (omega arith)
+      ∙ (λ j. head (t .settings) k S (n - 1) ++ (bodies before ++ (ps j ++ (bodies after ++ (z j
       ++ (entries before ++ (eight (s .ca) (s .reservation) (s .ceiling) (h j) ++ (entries after ++ rest))))))))
 
   taken-out-cut : (at : ℕ) → at ≡ 64 + 48 * (total held before + seekIn ioa (s .points))
-      → over (over (closedUp (image (record { capacity = k; stations = before ++ (s ∷ after) }) ++ rest) at (64 + 48 * n))
+      → over (over (closedUp (image (withStations (before ++ (s ∷ after)) t) ++ rest) at (64 + 48 * n))
       (64 + 48 * k + 8 * length before + 6) (pair (held s - 1))) 8 (pair (n - 1))
-      ≡ image (record { capacity = k; stations = before ++ (withPoints (removeIn ioa) s ∷ after) }) ++ rest
+      ≡ image (withStations (before ++ (withPoints (removeIn ioa) s ∷ after)) t) ++ rest
   unfolding six
   taken-out-cut at e =
       let S : ℕ = length before + suc (length after) in
@@ -194,11 +197,11 @@ module _ (k : ℕ) (before : List Station) (s : Station) (after : List Station) 
       let lz : length Z ≡ 48 * (k - n) = length-replicate (48 * (k - n)) 0 in
       let lp : length P ≡ 48 * length (p .below) = length-places (s .ca) (p .below) in
       let lq : length Q ≡ 48 * length (p .above) = length-places (s .ca) (p .above) in
-      let moved = closed-at (head k S n) (bodies before) P (placeOf (s .ca) (p .point)) Q (bodies after) Z (entries before) six′ (pair (held s)) R
+      let moved = closed-at (head (t .settings) k S n) (bodies before) P (placeOf (s .ca) (p .point)) Q (bodies after) Z (entries before) six′ (pair (held s)) R
       (pair (held s - 1)) at (64 + 48 * n) (64 + 48 * k + 8 * length before + 6) (omega arith) refl (omega arith) (omega arith) refl in
       ap (λ (l : List ℕ). over (over (closedUp l at (64 + 48 * n)) (64 + 48 * k + 8 * length before + 6) (pair (held s - 1))) 8 (pair (n - 1))) cut
       ∙ ap (λ (l : List ℕ). over l 8 (pair (n - 1))) moved
-      ∙ head-over k S n (n - 1) (bodies before ++ ((P ++ Q) ++ (bodies after ++ ((replicate 48 0 ++ Z) ++ (entries before ++ ((six′ ++ pair (held s - 1)) ++ R))))))
+      ∙ head-over (t .settings) k S n (n - 1) (bodies before ++ ((P ++ Q) ++ (bodies after ++ ((replicate 48 0 ++ Z) ++ (entries before ++ ((six′ ++ pair (held s - 1)) ++ R))))))
       ∙ sym cut-removed
 
 -- What `take_out` asks of the numbers.
@@ -232,11 +235,11 @@ taken-out-image t rest ca ioa s w i h at g k z =
     let n : ℕ = total held (t .stations) in
     let l : Laid m t = laid t rest g in
     let p : Parted ioa (s .points) = parted ioa 0 (s .points) (station-rises t ca s g w) k in
-    let same : image t ≡ image (record { capacity = K; stations = w .before ++ (s ∷ w .after) }) = λ j. image (record { capacity = K; stations = w .split j }) in
+    let same : image t ≡ image (withStations (w .before ++ (s ∷ w .after)) t) = λ j. image (withStations (w .split j) t) in
     (λ j. over (over (closedUp m at (64 + 48 * l .is-n j)) (64 + 48 * l .is-k j + 8 * z .index j + 6) (pair (z .count j - 1))) 8 (pair (l .is-n j - 1)))
     ∙ (λ j. over (over (closedUp (same j ++ rest) at (64 + 48 * n)) (64 + 48 * K + 8 * length (w .before) + 6) (pair (held s - 1))) 8 (pair (n - 1)))
-    ∙ taken-out-cut K (w .before) s (w .after) ioa n rest (ap (total held) (sym (w .split))) (g .few) p at (z .place)
-    ∙ (λ j. image (record { capacity = K; stations = sym (stations-split t ca (removeIn ioa) s w) j }) ++ rest)
+    ∙ taken-out-cut t (w .before) s (w .after) ioa n rest (ap (total held) (sym (w .split))) (g .few) p at (z .place)
+    ∙ (λ j. image (withStations (sym (stations-split t ca (removeIn ioa) s w) j) t) ++ rest)
 
 -- The same of a memory that holds a table: what lies past the table's octets stays.
 pub taken-out-parsed : (m : List ℕ) (t : Table) (ca ioa : ℕ) (s : Station) (w : Found ca (t .stations) s) (i h at : ℕ) → Octets m → parse m ≡ some t

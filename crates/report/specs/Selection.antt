@@ -6,6 +6,7 @@ use mathlib.Core.Bool.{Bool, true, false}
 use lib.Dec.{eqb}
 use Rattle.limits.specs.Test.{pick}
 use Rattle.model.specs.declared.Point.{Point}
+use Rattle.model.specs.Place.{integratedTotals, timedIntegratedTotals}
 use Rattle.table.specs.Table.{Table}
 use Rattle.report.specs.declared.Selection.{Selection}
 use Rattle.report.specs.declared.Selection.the-variants.{Every, Group, CounterGroup}
@@ -28,7 +29,7 @@ interrogationTypesOf t = interrogationTypes
 
 -- The types of a counter interrogation.
 unfoldable pub counterTypes : List ℕ
-counterTypes = 15 ∷ 37 ∷ []
+counterTypes = integratedTotals ∷ timedIntegratedTotals ∷ []
 
 -- Is a type in the set?
 unfoldable pub among : List ℕ → ℕ → Bool

@@ -13,7 +13,7 @@ use Rattle.octets.specs.Number.{two, Octets}
 use Rattle.model.specs.declared.Point.{Point}
 use Rattle.table.specs.Table.{Station, Table, planOk, numbersOk, image}
 use Rattle.table.specs.Memory.{tableOf, wellFormed}
-use Rattle.table.specs.Change.{stationOf, inStation, withPoints, changed}
+use Rattle.table.specs.Change.{withStations, stationOf, inStation, withPoints, changed}
 use Rattle.table.proofs.Parse.{holds, passed, printed}
 use Rattle.table.proofs.Change.{Absent, station-absent}
 use Rattle.table.proofs.Change.Absent.{absent-none, absent-more}
@@ -48,7 +48,7 @@ in-absent ca f (x ∷ ss) (absent-more n a) = simp (ne-eqb _ _ n) (ap (λ (l : L
 -- A change of a station that the plan does not have changes nothing.
 pub changed-absent : (t : Table) (ca : ℕ) (f : List Point → List Point) → stationOf ca (t .stations) ≡ none → changed t ca f ≡ t
 unfolding changed
-changed-absent t ca f e = λ j. record { capacity = t .capacity; stations = in-absent ca (withPoints f) (t .stations) (station-absent ca (t .stations) e) j }
+changed-absent t ca f e = λ j. withStations (in-absent ca (withPoints f) (t .stations) (station-absent ca (t .stations) e) j) t
 
 -- ---- the laws
 

@@ -17,7 +17,7 @@ use Rattle.octets.proofs.At.{At, at-here, at-rest}
 use Rattle.model.specs.declared.Point.{Point}
 use Rattle.model.specs.Place.{isCounter, pointOk, placeOf}
 use Rattle.table.specs.Table.{Station, Table, held, rising, allRising, placesOf, bodies, eight, entries, head, image}
-use Rattle.table.specs.Change.{withPoints, changed}
+use Rattle.table.specs.Change.{withStations, withPoints, changed}
 use Rattle.table.proofs.Points.{place-read, length-places}
 use Rattle.table.proofs.Stations.{length-bodies}
 use Rattle.table.proofs.Parse.{Good}
@@ -115,19 +115,19 @@ station-image t rest ca sel s w first h g ef eh =
     let a : total held (w .before ++ (s ∷ w .after)) ≡ total held (w .before) + (held s + total held (w .after)) = held-at (w .before) s (w .after) in
     let b : total held (w .before ++ (s′ ∷ w .after)) ≡ total held (w .before) + (length (resetIn sel (s .points)) + total held (w .after)) = held-at (w .before) s′ (w .after) in
     let all′ : total held (w .before ++ (s′ ∷ w .after)) ≡ n = omega arith in
-    let lx : length (head K S n ++ B) ≡ first = let lb = length-bodies (w .before) in simp length-append (omega arith) in
-    let was : image t ++ rest ≡ (head K S n ++ B) ++ (P ++ Y) =
-    (λ j. image (record { capacity = K; stations = w .split j }) ++ rest)
-    ∙ image-at K (w .before) s (w .after) n rest all
-    ∙ sym (append-assoc (head K S n) B (P ++ Y)) in
-    let is : image (record { capacity = K; stations = w .before ++ (s′ ∷ w .after) }) ++ rest ≡ (head K S n ++ B) ++ (P′ ++ Y) =
-    image-at K (w .before) s′ (w .after) n rest all′
-    ∙ (λ j. head K S n ++ (B ++ (P′ ++ (bodies (w .after) ++ (replicate (48 * (K - n)) 0 ++ (entries (w .before) ++ (eight (s .ca) (s .reservation) (s .ceiling) (same j) ++ (entries (w .after) ++ rest))))))))
-    ∙ sym (append-assoc (head K S n) B (P′ ++ Y)) in
+    let lx : length (head (t .settings) K S n ++ B) ≡ first = let lb = length-bodies (w .before) in simp length-append (omega arith) in
+    let was : image t ++ rest ≡ (head (t .settings) K S n ++ B) ++ (P ++ Y) =
+    (λ j. image (withStations (w .split j) t) ++ rest)
+    ∙ image-at t (w .before) s (w .after) n rest all
+    ∙ sym (append-assoc (head (t .settings) K S n) B (P ++ Y)) in
+    let is : image (withStations (w .before ++ (s′ ∷ w .after)) t) ++ rest ≡ (head (t .settings) K S n ++ B) ++ (P′ ++ Y) =
+    image-at t (w .before) s′ (w .after) n rest all′
+    ∙ (λ j. head (t .settings) K S n ++ (B ++ (P′ ++ (bodies (w .after) ++ (replicate (48 * (K - n)) 0 ++ (entries (w .before) ++ (eight (s .ca) (s .reservation) (s .ceiling) (same j) ++ (entries (w .after) ++ rest))))))))
+    ∙ sym (append-assoc (head (t .settings) K S n) B (P′ ++ Y)) in
     (λ j. resetPlaces sel (was j) first (eh j))
-    ∙ places-image sel (s .ca) 0 (s .points) (head K S n ++ B) Y first (station-rises t ca s g w) lx
+    ∙ places-image sel (s .ca) 0 (s .points) (head (t .settings) K S n ++ B) Y first (station-rises t ca s g w) lx
     ∙ sym is
-    ∙ (λ j. image (record { capacity = K; stations = sym (stations-split t ca (resetIn sel) s w) j }) ++ rest)
+    ∙ (λ j. image (withStations (sym (stations-split t ca (resetIn sel) s w) j) t) ++ rest)
 
 -- ---- the places of every station
 
@@ -172,16 +172,16 @@ regroup H B Z E R = simp append-assoc
 -- Resetting all places leaves the image of the table with every station's counters reset.
 pub every-image : (t : Table) (rest : List ℕ) (sel : Selection) → Good t
     → resetPlaces sel (image t ++ rest) 64 (total held (t .stations))
-    ≡ image (record { capacity = t .capacity; stations = map (withPoints (resetIn sel)) (t .stations) }) ++ rest
+    ≡ image (withStations (map (withPoints (resetIn sel)) (t .stations)) t) ++ rest
 unfolding image
 every-image t rest sel g =
     let K : ℕ = t .capacity in
     let ss : List Station = t .stations in
     let n : ℕ = total held ss in
-    let H : List ℕ = head K (length ss) n in
+    let H : List ℕ = head (t .settings) K (length ss) n in
     let Z : List ℕ = replicate (48 * (K - n)) 0 in
     let D′ : List ℕ = bodies (map (withPoints (resetIn sel)) ss) in
     ap (λ (l : List ℕ). resetPlaces sel l 64 n) (regroup H (bodies ss) Z (entries ss) rest)
     ∙ bodies-image sel ss H (Z ++ (entries ss ++ rest)) 64 (g .rises) refl
     ∙ sym (regroup H D′ Z (entries ss) rest)
-    ∙ (λ j. (head K (sym (every-station sel ss) j) (sym (every-held sel ss) j) ++ (D′ ++ (replicate (48 * (K - sym (every-held sel ss) j)) 0 ++ sym (every-entry sel ss) j))) ++ rest)
+    ∙ (λ j. (head (t .settings) K (sym (every-station sel ss) j) (sym (every-held sel ss) j) ++ (D′ ++ (replicate (48 * (K - sym (every-held sel ss) j)) 0 ++ sym (every-entry sel ss) j))) ++ rest)

@@ -1,6 +1,4 @@
 // Counters set to 0 in a table's memory. From `apply_counter_freeze_qualifier` of `system_command_handler.rs`.
-use asdu::types_id::M_IT_NA_1;
-use asdu::types_id::M_IT_TB_1;
 use layout::PLACE_SIZE;
 use layout::VALUE_OFFSET;
 use report::Selection;
@@ -8,25 +6,14 @@ ghost use mathlib.Core.Path.{_≡_};
 ghost use Prim.Native.Nat.{_+_, _*_, _≤_};
 ghost use lib.ListN.{length};
 ghost use Rattle.layout.specs.Layout.{placeSize};
-ghost use Rattle.model.specs.Place.{isCounter};
 ghost use Rattle.resets.specs.Resets.{takesAt, resetPlace, resetPlaces};
-
-// Is a type a counter's: integrated totals, without or with a time?
-fn is_counter(kind: u8) -> bool
-    ensures { λ r. ⌜ r ≡ isCounter kind ⌝ }
-{
-    if kind == M_IT_NA_1 {
-        return true;
-    }
-    kind == M_IT_TB_1
-}
 
 // Is there a counter at the place, and does the selection take it?
 fn takes_at(m: &[u8], at: usize, selection: Selection) -> bool
     requires { ⌜ at + placeSize ≤ length (now m) ⌝ }
     ensures { λ r. ⌜ r ≡ takesAt selection (now (m .entry)) at ⌝ }
 {
-    if !is_counter(m[at]) {
+    if !model::is_counter(m[at]) {
         return false;
     }
     report::selects_at(m, at, selection)

@@ -23,7 +23,7 @@ use Rattle.model.specs.Place.{pointAt, placeOf, pointOk, valid}
 use Rattle.model.specs.Request.{element}
 use Rattle.model.proofs.Requests.{length-element}
 use Rattle.table.specs.Table.{Station, Table, held, rising, placesOf, bodies, eight, entries, head, image}
-use Rattle.table.specs.Change.{withPoints, changed, seekIn, pointIn}
+use Rattle.table.specs.Change.{withStations, withPoints, changed, seekIn, pointIn}
 use Rattle.table.proofs.Points.{gets, gets-drop, at-drop, place-read, length-places}
 use Rattle.table.proofs.Stations.{length-bodies}
 use Rattle.table.proofs.Cut.{places-at, held-at, image-at}
@@ -170,8 +170,11 @@ read-at H B P L Q D at e =
 
 -- ---- the image
 
-module _ (k : ℕ) (before : List Station) (s : Station) (behind : List Station) (n : ℕ) (rest : List ℕ) (ioa : ℕ) (q : Point) (v : List ℕ)
+module _ (t : Table) (before : List Station) (s : Station) (behind : List Station) (n : ℕ) (rest : List ℕ) (ioa : ℕ) (q : Point) (v : List ℕ)
     (count : total held (before ++ (s ∷ behind)) ≡ n) (w : Parted ioa (s .points) q) (is-ioa : q .ioa ≡ ioa) (long : length v ≡ 12) where
+  abbrev k : ℕ
+  k = t .capacity
+
   size : ℕ
   size = pointOctets (q .kind)
 
@@ -179,19 +182,19 @@ module _ (k : ℕ) (before : List Station) (s : Station) (behind : List Station)
   rear : List ℕ
   rear = bodies behind ++ (replicate (48 * (k - n)) 0 ++ (entries before ++ (eight (s .ca) (s .reservation) (s .ceiling) (held s) ++ (entries behind ++ rest))))
 
-  cut-old : image (record { capacity = k; stations = before ++ (s ∷ behind) }) ++ rest
-      ≡ head k (length before + suc (length behind)) n ++ (bodies before
+  cut-old : image (withStations (before ++ (s ∷ behind)) t) ++ rest
+      ≡ head (t .settings) k (length before + suc (length behind)) n ++ (bodies before
       ++ ((placesOf (s .ca) (w .below) ++ ((ten (s .ca) q ++ (take size (q .value) ++ after size)) ++ placesOf (s .ca) (w .above))) ++ rear))
   unfolding size rear
   cut-old =
       let S : ℕ = length before + suc (length behind) in
       let ps = ap (placesOf (s .ca)) (w .split) ∙ places-at (s .ca) (w .below) q (w .above) in
-      image-at k before s behind n rest count
-      ∙ ap (λ (l : List ℕ). head k S n ++ (bodies before ++ (l ++ rear))) ps
-      ∙ ap (λ (l : List ℕ). head k S n ++ (bodies before ++ ((placesOf (s .ca) (w .below) ++ (l ++ placesOf (s .ca) (w .above))) ++ rear))) (old-place (s .ca) q (w .is-ok))
+      image-at t before s behind n rest count
+      ∙ ap (λ (l : List ℕ). head (t .settings) k S n ++ (bodies before ++ (l ++ rear))) ps
+      ∙ ap (λ (l : List ℕ). head (t .settings) k S n ++ (bodies before ++ ((placesOf (s .ca) (w .below) ++ (l ++ placesOf (s .ca) (w .above))) ++ rear))) (old-place (s .ca) q (w .is-ok))
 
-  cut-new : image (record { capacity = k; stations = before ++ (withPoints (replaceIn (revalued q v)) s ∷ behind) }) ++ rest
-      ≡ head k (length before + suc (length behind)) n ++ (bodies before
+  cut-new : image (withStations (before ++ (withPoints (replaceIn (revalued q v)) s ∷ behind)) t) ++ rest
+      ≡ head (t .settings) k (length before + suc (length behind)) n ++ (bodies before
       ++ ((placesOf (s .ca) (w .below) ++ ((ten (s .ca) q ++ (take size v ++ after size)) ++ placesOf (s .ca) (w .above))) ++ rear))
   unfolding size rear
   cut-new =
@@ -204,14 +207,14 @@ module _ (k : ℕ) (before : List Station) (s : Station) (behind : List Station)
       let a : total held (before ++ (s ∷ behind)) ≡ total held before + (held s + total held behind) = held-at before s behind in
       let b : total held (before ++ (s′ ∷ behind)) ≡ total held before + (length (replaceIn p (s .points)) + total held behind) = held-at before s′ behind in
       let ps = ap (placesOf (s .ca)) put ∙ places-at (s .ca) (w .below) p (w .above) in
-      image-at k before s′ behind n rest (omega arith)
-      ∙ (λ j. head k S n ++ (bodies before ++ (ps j ++ (bodies behind ++ (replicate (48 * (k - n)) 0
+      image-at t before s′ behind n rest (omega arith)
+      ∙ (λ j. head (t .settings) k S n ++ (bodies before ++ (ps j ++ (bodies behind ++ (replicate (48 * (k - n)) 0
       ++ (entries before ++ (eight (s .ca) (s .reservation) (s .ceiling) (same j) ++ (entries behind ++ rest))))))))
-      ∙ ap (λ (l : List ℕ). head k S n ++ (bodies before ++ ((placesOf (s .ca) (w .below) ++ (l ++ placesOf (s .ca) (w .above))) ++ rear))) (new-place (s .ca) q v long)
+      ∙ ap (λ (l : List ℕ). head (t .settings) k S n ++ (bodies before ++ ((placesOf (s .ca) (w .below) ++ (l ++ placesOf (s .ca) (w .above))) ++ rear))) (new-place (s .ca) q v long)
 
   stored-cut : (at : ℕ) → at ≡ 64 + 48 * (total held before + seekIn ioa (s .points))
-      → over (image (record { capacity = k; stations = before ++ (s ∷ behind) }) ++ rest) (at + 10) (take size v)
-      ≡ image (record { capacity = k; stations = before ++ (withPoints (replaceIn (revalued q v)) s ∷ behind) }) ++ rest
+      → over (image (withStations (before ++ (s ∷ behind)) t) ++ rest) (at + 10) (take size v)
+      ≡ image (withStations (before ++ (withPoints (replaceIn (revalued q v)) s ∷ behind)) t) ++ rest
   unfolding size ten pointOk
   stored-cut at e =
       let S : ℕ = length before + suc (length behind) in
@@ -223,25 +226,25 @@ module _ (k : ℕ) (before : List Station) (s : Station) (behind : List Station)
       let lp : length (placesOf (s .ca) (w .below)) ≡ 48 * length (w .below) = length-places (s .ca) (w .below) in
       let so : seekIn ioa (s .points) ≡ length (w .below) = w .sought in
       ap (λ (l : List ℕ). over l (at + 10) (take size v)) cut-old
-      ∙ write-at (head k S n) (bodies before) (placesOf (s .ca) (w .below)) (ten (s .ca) q) (take size (q .value)) (after size) (placesOf (s .ca) (w .above)) rear
+      ∙ write-at (head (t .settings) k S n) (bodies before) (placesOf (s .ca) (w .below)) (ten (s .ca) q) (take size (q .value)) (after size) (placesOf (s .ca) (w .above)) rear
       (take size v) (at + 10) (omega arith) (omega arith)
       ∙ sym cut-new
 
   -- the point at the place is then the one with the new value
   stored-read : (at : ℕ) → at ≡ 64 + 48 * (total held before + seekIn ioa (s .points))
-      → pointAt (image (record { capacity = k; stations = before ++ (withPoints (replaceIn (revalued q v)) s ∷ behind) }) ++ rest) at ≡ revalued q v
+      → pointAt (image (withStations (before ++ (withPoints (replaceIn (revalued q v)) s ∷ behind)) t) ++ rest) at ≡ revalued q v
   unfolding size
   stored-read at e =
       let S : ℕ = length before + suc (length behind) in
       let p : Point = revalued q v in
-      let M : List ℕ = image (record { capacity = k; stations = before ++ (withPoints (replaceIn p) s ∷ behind) }) ++ rest in
+      let M : List ℕ = image (withStations (before ++ (withPoints (replaceIn p) s ∷ behind)) t) ++ rest in
       let Q : List ℕ = placesOf (s .ca) (w .above) in
       let lb : length (bodies before) ≡ 48 * total held before = length-bodies before in
       let lp : length (placesOf (s .ca) (w .below)) ≡ 48 * length (w .below) = length-places (s .ca) (w .below) in
       let so : seekIn ioa (s .points) ≡ length (w .below) = w .sought in
       let d : drop at M ≡ placeOf (s .ca) p ++ (Q ++ rear) =
       ap (drop at) cut-new
-      ∙ read-at (head k S n) (bodies before) (placesOf (s .ca) (w .below)) (ten (s .ca) q ++ (take size v ++ after size)) Q rear at (omega arith)
+      ∙ read-at (head (t .settings) k S n) (bodies before) (placesOf (s .ca) (w .below)) (ten (s .ca) q ++ (take size v ++ after size)) Q rear at (omega arith)
       ∙ ap (λ (l : List ℕ). l ++ (Q ++ rear)) (sym (new-place (s .ca) q v long)) in
       at-drop M at
       ∙ ap (λ (l : List ℕ). pointAt l 0) d
@@ -258,9 +261,9 @@ stored-image t rest ca ioa s f q v at r e i l p =
     let K : ℕ = t .capacity in
     let count = ap (total held) (sym (f .split)) in
     let w = parted ioa 0 (s .points) q r e in (
-      (λ j. over (image (record { capacity = K; stations = f .split j }) ++ rest) (at + 10) (take (pointOctets (q .kind)) v))
-          ∙ stored-cut K (f .before) s (f .after) (total held (t .stations)) rest ioa q v count w i l at p
-          ∙ (λ j. image (record { capacity = K; stations = sym (stations-split t ca (replaceIn (revalued q v)) s f) j }) ++ rest),
-      (λ j. pointAt (image (record { capacity = K; stations = stations-split t ca (replaceIn (revalued q v)) s f j }) ++ rest) at)
-          ∙ stored-read K (f .before) s (f .after) (total held (t .stations)) rest ioa q v count w i l at p,
+      (λ j. over (image (withStations (f .split j) t) ++ rest) (at + 10) (take (pointOctets (q .kind)) v))
+          ∙ stored-cut t (f .before) s (f .after) (total held (t .stations)) rest ioa q v count w i l at p
+          ∙ (λ j. image (withStations (sym (stations-split t ca (replaceIn (revalued q v)) s f) j) t) ++ rest),
+      (λ j. pointAt (image (withStations (stations-split t ca (replaceIn (revalued q v)) s f j) t) ++ rest) at)
+          ∙ stored-read t (f .before) s (f .after) (total held (t .stations)) rest ioa q v count w i l at p,
     )

@@ -8,6 +8,7 @@ use lib.Dec.{eqb}
 use Rattle.limits.specs.Test.{_&_, pick}
 use Rattle.limits.specs.Size.{pointOctets}
 use Rattle.model.specs.declared.Point.{Point}
+use Rattle.model.specs.Place.{withValue}
 use Rattle.model.specs.Request.{element}
 use Rattle.table.specs.Table.{Table}
 use Rattle.table.specs.Change.{stationOf, pointIn}
@@ -20,7 +21,7 @@ addressed t ca ioa = pointIn ioa (pointsOf (stationOf ca (t .stations)))
 
 -- A point with another value: octets past its element are zero.
 abbrev pub revalued : Point → List ℕ → Point
-revalued p v = record { kind = p .kind; ioa = p .ioa; group = p .group; counter = p .counter; value = element (pointOctets (p .kind)) v }
+revalued p v = withValue (element (pointOctets (p .kind)) v) p
 
 -- Does an update mean this point of station ca: the address and the type are the same?
 abbrev pub means : Update → ℕ → Point → Bool

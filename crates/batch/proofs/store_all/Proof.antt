@@ -12,7 +12,7 @@ use Rattle.layout.specs.Layout.{pointsOffset, capacityIn, stationsIn, pointsIn,
 use Rattle.records.specs.Records.{recordsIn}
 use Rattle.sorting.specs.Sorted.{All, Ascending, sorted}
 use Rattle.sorting.proofs.Sorted.{sorted-ascending, sorted-all}
-use Rattle.merging.specs.Merge.{Rises, placesIn, numbersFrom, Fits, merged}
+use Rattle.merging.specs.Merge.{Rises, firstPlaces, numbersFrom, Fits, merged}
 use Rattle.batch.specs.Raise.{raised, Raisable}
 use Rattle.batch.proofs.Storing.{allMerged, storable}
 use Rattle.batch.proofs.store_all.Statement.{statement}
@@ -56,7 +56,7 @@ merge-requires c κs =
     let long = z .length-is in (
       omega arith,
       omega arith,
-      (subst (λ (x : ℕ). Rises 0 (placesIn m x)) (sym e) (z .rises), subst Ascending (sym s) (sorted-ascending numbers), subst (All (Fits r)) (sym s) (sorted-all (Fits r) numbers (z .records))),
+      (subst (λ (x : ℕ). Rises 0 (firstPlaces m x)) (sym e) (z .rises), subst Ascending (sym s) (sorted-ascending numbers), subst (All (Fits r)) (sym s) (sorted-all (Fits r) numbers (z .records))),
     )
 
 mul-raise-held : tie.Need-mul-raise-held

@@ -10,11 +10,17 @@ use Rattle.table.specs.Memory.{tableOf}
 use Rattle.table.specs.Settings.{limitOf}
 use Rattle.table.proofs.Parse.{passed}
 use Rattle.asdu.proofs.Lengths.{length-confirmation}
-use Rattle.output.specs.declared.reach.Reach.{Reach}
-use Rattle.output.specs.Data.{dataOf, dataFor, wrote, written}
-use Rattle.output.proofs.Reached.{reached, data-is}
-use Rattle.confirming.specs.Sending.{beforeElement}
-use Rattle.confirming.proofs.Laws.{no-room, has-room, all-written}
+use Rattle.asdu.specs.Header.{Asdu, wire}
+use Rattle.asdu.specs.Command.{firstElement}
+use Rattle.report.specs.declared.Reach.{Reach}
+use Rattle.report.specs.declared.Terms.{Terms}
+use Rattle.report.specs.Packing.{selected}
+use Rattle.report.specs.Selection.{selects}
+use Rattle.report.specs.Report.{report}
+use Rattle.report.specs.Order.{pointsFor}
+use Rattle.output.specs.Data.{dataOf, wrote, written}
+use Rattle.output.proofs.Reached.{reached}
+use Rattle.confirming.proofs.Laws.{data-is, no-room, has-room, all-written}
 use borrow.Author.Needs.{needs}
 use native.Mathlib.Omega.{arith}
 use Rattle.confirming.proofs.report.Statement.{statement}
@@ -23,11 +29,11 @@ use Rattle.confirming.proofs.report.Tie as tie
 -- the data that the command asks for, and the octets before and after them
 abbrev dataIn : tie.Start → List ℕ
 dataIn s =
-    dataFor (limitOf (tableOf (now (s .args .table)))) (now (s .args .types)) (s .args .cause) (s .args .command .ca) (s .args .selection)
-    (tableOf (now (s .args .table)) .stations)
+    wire (report (limitOf (tableOf (now (s .args .table)))) (now (s .args .types)) (s .args .cause) (s .args .command .ca)
+    (selected (selects (s .args .selection)) (pointsFor (s .args .command .ca) (tableOf (now (s .args .table)) .stations))))
 
 abbrev aroundIn : tie.Start → ℕ
-aroundIn s = beforeElement + s .args .command .element
+aroundIn s = firstElement + s .args .command .element
 
 -- the data that are written are those
 same-data : (c : tie.After-put-data) →
@@ -41,8 +47,9 @@ same-data c =
     let r = c .before .before .before .reach-of in
     let n = c .before .before .before .before .limit-of .ensures .0 in
     let d =
-    (λ j. dataOf (n j) (now (a .types)) (a .cause) (a .command .ca) (a .selection) (r .result .every) t (r .result .base) (r .result .n))
-    ∙ data-is (limitOf (tableOf t)) (now (a .types)) (a .cause) (a .command .ca) (a .selection) t (r .result) (r .ensures) o (start .pre .0) in
+    ap wire
+    ((λ j. dataOf (record { limit = n j; cause = a .cause; ca = a .command .ca }) (now (a .types)) (a .selection) t (r .result))
+    ∙ data-is (record { limit = limitOf (tableOf t); cause = a .cause; ca = a .command .ca }) (now (a .types)) (a .selection) t (a .command .ca) (r .result) (r .ensures) o (start .pre .0)) in
     let e = c .put-data .ensures in
     let out = now (a .answer) in
     (e .0 ∙ ap (wrote (length out) (aroundIn start) (aroundIn start)) d, e .1 ∙ ap (written out (aroundIn start) (aroundIn start)) d)
@@ -52,7 +59,7 @@ room : (c : tie.After-octets) → aroundIn (c .before .before .before .before .b
 room c =
     let start = c .before .before .before .before .before .before .before .before .before .before .before .before .before in
     let a = start .args in
-    has-room (tableOf (now (a .table))) (a .command) (now (a .asdu)) (now (a .types)) (a .cause) (a .selection) (now (a .answer)) (start .pre .4 .1) _
+    has-room (tableOf (now (a .table))) (a .command) (now (a .asdu)) (now (a .types)) (a .cause) (a .selection) (now (a .answer)) (start .pre .3 .1) _
     (sym (same-data (c .before .before .before .before) .0) ∙ c .octets .given .1)
 
 limit-of-requires : tie.Need-limit-of-requires
@@ -82,7 +89,7 @@ put-data-requires c κs =
     let few = z .few in
     let l = c .before .before .before .limit-of .ensures in
     let p = start .pre in
-    (omega arith, omega arith, omega arith, omega arith, l .1, l .2, p .1, p .2, p .3)
+    (omega arith, omega arith, (omega arith, omega arith), p .1, (l .1, l .2), p .2)
 
 enum-known-octets : tie.Need-enum-known-octets
 enum-known-octets c = search needs
@@ -102,15 +109,15 @@ returns c =
     let d = same-data (c .before .before .before .before .before) in
     let a = start .args in
     rw (c .nothing .ensures)
-    (no-room (tableOf (now (a .table))) (a .command) (now (a .asdu)) (now (a .types)) (a .cause) (a .selection) (now (a .answer)) (start .pre .4 .1) (sym (d .0) ∙ c .before .enum-told .given .1) _ (d .1))
+    (no-room (tableOf (now (a .table))) (a .command) (now (a .asdu)) (now (a .types)) (a .cause) (a .selection) (now (a .answer)) (start .pre .3 .1) (sym (d .0) ∙ c .before .enum-told .given .1) _ (d .1))
 
 put-confirmation-requires : tie.Need-put-confirmation-requires
 put-confirmation-requires c κs =
     let start = c .before .before .before .before .before .before .before .before .before .before .before .before .before .before .before in
     let fits = room (c .before .before) in
-    let l = length-confirmation (start .args .command) (now (start .args .asdu)) 7 false (start .pre .4 .1) in
+    let l = length-confirmation (start .args .command) (now (start .args .asdu)) 7 false (start .pre .3 .1) in
     let kept = c .before .before .before .before .before .before .put-data .kept .0 in
-    (omega arith, start .pre .4 .1, omega arith)
+    (omega arith, start .pre .3 .1, omega arith)
 
 add-put-termination : tie.Need-add-put-termination
 add-put-termination c =
@@ -125,7 +132,7 @@ put-termination-requires c κs =
     let fits = room (c .before .before .before .before .before .before) in
     let kept = c .before .before .before .before .before .before .before .before .before .before .put-data .kept .0 in
     let again = c .before .before .before .put-confirmation .kept .0 in
-    (start .pre .4, omega arith)
+    (start .pre .3, omega arith)
 
 add-given : tie.Need-add-given
 add-given c =
@@ -153,7 +160,7 @@ returns-2 c =
     let d = same-data (c .before .before .before .before .before .before .before .before .before .before .before .before .before .before) in
     let a = start .args in
     rw (c .given .ensures)
-    (all-written (tableOf (now (a .table))) (a .command) (now (a .asdu)) (now (a .types)) (a .cause) (a .selection) (now (a .answer)) (start .pre .4 .1) _ (sym (d .0) ∙ c .before .before .before .before .before .before .before .before .before .before .octets .given .1) _ _ _ (d .1) (c .before .before .before .before .before .before .before .put-confirmation .ensures .1) (c .before .before .before .put-termination .ensures))
+    (all-written (tableOf (now (a .table))) (a .command) (now (a .asdu)) (now (a .types)) (a .cause) (a .selection) (now (a .answer)) (start .pre .3 .1) _ (sym (d .0) ∙ c .before .before .before .before .before .before .before .before .before .before .octets .given .1) _ _ _ (d .1) (c .before .before .before .before .before .before .before .put-confirmation .ensures .1) (c .before .before .before .put-termination .ensures))
 
 pub report-spec : {M : Type 1} → statement M
 report-spec =

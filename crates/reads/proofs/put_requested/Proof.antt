@@ -53,7 +53,7 @@ loop-again c =
     let i = c .before .before .before .before .three-at .ensures .0 in
     let p = c .before .before .put-found .ensures in (
       next-in (now (a .m)) (a .first) (a .h) (a .command .ca) (now (a .asdu)) (now (a .out)) _ (l .out) (a .from) (l .o) (l .at) (l .left) (l .inv .0) (start .pre .1) (omega arith)
-      _ _ _ i (p .0) (p .1),
+          _ _ _ i (p .0) (p .1),
       omega arith,
     )
 
