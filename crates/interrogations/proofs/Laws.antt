@@ -17,7 +17,7 @@ use Rattle.report.specs.declared.Selection.{Selection}
 use Rattle.report.specs.declared.Selection.the-variants.{Every, Group, CounterGroup}
 use Rattle.report.specs.Packing.{Each}
 use Rattle.report.specs.Selection.{interrogationTypes, interrogationTypesOf, counterTypes}
-use Rattle.output.specs.Data.{Slots}
+use Rattle.output.specs.Data.{Slots, TypesOk}
 use Rattle.registry.specs.Effect.{holding}
 use Rattle.answers.specs.declared.Choice.{Choice}
 use Rattle.answers.specs.declared.Choice.the-variants.{Selected, Denied}
@@ -37,11 +37,11 @@ unfolding slotted Slots Each
 slots-from [] t = tt
 slots-from (k ∷ ks) t = let a = both _ _ t in let b = both _ _ (a .1) in ((ltb-true _ _ (a .0), ltb-true _ _ (b .0)), slots-from ks (b .1))
 
-pub interrogation-slots : (t : Table) → (length (interrogationTypesOf t) ≤ 64) × Slots (interrogationTypesOf t)
+pub interrogation-slots : (t : Table) → TypesOk (interrogationTypesOf t)
 unfolding slotted _&_ interrogationTypes interrogationTypesOf
 interrogation-slots t = (omega arith, slots-from interrogationTypes refl)
 
-pub counter-slots : (length counterTypes ≤ 64) × Slots counterTypes
+pub counter-slots : TypesOk counterTypes
 unfolding slotted _&_ counterTypes
 counter-slots = (omega arith, slots-from counterTypes refl)
 

@@ -5,7 +5,8 @@ use lib.ListN.{length}
 use Rattle.asdu.specs.declared.command.Command.{Command}
 use Rattle.answers.specs.declared.Choice.{Choice}
 use Rattle.answers.specs.declared.Choice.the-variants.{Selected, Denied}
-use Rattle.confirming.specs.Sending.{beforeElement, HasFirst}
+use Rattle.asdu.specs.Command.{firstElement}
+use Rattle.confirming.specs.Sending.{HasFirst}
 
 -- Data have a cause of six bits; what is denied has no data.
 abbrev pub CauseOf : Choice → ℕ → Type 0
@@ -14,4 +15,4 @@ CauseOf (Selected sel) cause = cause < 64
 
 -- A first object with a qualifier lies in the octets.
 abbrev pub HasQualifier : Command → List ℕ → Type 0
-HasQualifier c m = HasFirst c m × (beforeElement < length m)
+HasQualifier c m = HasFirst c m × (firstElement < length m)

@@ -4,10 +4,10 @@ use answers::Answered;
 use answers::Choice;
 use asdu::command::Command;
 use asdu::cot;
-use asdu::types_id::M_IT_NA_1;
-use asdu::types_id::M_IT_TB_1;
 use limits::size::ADDRESS_OCTETS;
 use limits::size::HEADER_OCTETS;
+use model::M_IT_NA_1;
+use model::M_IT_TB_1;
 use report::Selection;
 ghost use mathlib.Core.Path.{_≡_};
 ghost use mathlib.Core.Bool.{true};
@@ -16,17 +16,18 @@ ghost use lib.ListN.{length};
 ghost use Rattle.limits.specs.Test.{pick};
 ghost use Rattle.limits.specs.Outcome.{isDone};
 ghost use Rattle.table.specs.Memory.{wellFormed, tableOf};
-ghost use Rattle.output.specs.Data.{Slots};
+ghost use Rattle.asdu.specs.Command.{firstElement};
+ghost use Rattle.output.specs.Data.{TypesOk};
 ghost use Rattle.answers.specs.Said.{Sends, withTable};
 ghost use Rattle.answers.specs.System.{qualifierOf, interrogated, chosen, counterCause, resets, resetBy, answerTo, interrogationAnswer, counterAnswer, afterCounters};
-ghost use Rattle.confirming.specs.Sending.{beforeElement, HasFirst};
+ghost use Rattle.confirming.specs.Sending.{HasFirst};
 ghost use Rattle.interrogations.specs.Interrogations.{CauseOf, HasQualifier};
 
 // ---- what a qualifier asks for
 
 // The qualifier octet of the first object.
 pub fn qualifier_of(asdu: &[u8]) -> u8
-    requires { ⌜ beforeElement < length (now asdu) ⌝ }
+    requires { ⌜ firstElement < length (now asdu) ⌝ }
     ensures { λ r. ⌜ r ≡ qualifierOf (now (asdu .entry)) ⌝ }
 {
     asdu[HEADER_OCTETS + ADDRESS_OCTETS]
@@ -90,7 +91,7 @@ fn answer_to(
     command: Command,
     asdu: &[u8],
 ) -> Answered
-    requires { ⌜ (wellFormed (now table) ≡ true) × (length (now types) ≤ 64) × Slots (now types) × CauseOf choice cause × HasFirst command (now asdu) ⌝ }
+    requires { ⌜ (wellFormed (now table) ≡ true) × TypesOk (now types) × CauseOf choice cause × HasFirst command (now asdu) ⌝ }
     ensures { λ r. ⌜ Sends (answerTo (tableOf (now (table .entry))) command (now (asdu .entry)) (now (types .entry)) cause choice) (now (answer .entry)) r (now (answer .exit)) ⌝ }
 {
     let Choice::Selected(selection) = choice else {

@@ -3,14 +3,13 @@
 use mathlib.Core.Path.{_≡_, refl, sym, ap, _∙_}
 use mathlib.Core.List.{List, [], _∷_}
 use mathlib.Core.Bool.{Bool, true, false}
-use Prim.Native.Nat.{ℕ, _+_, _*_, _≤_, _<_}
+use Prim.Native.Nat.{ℕ, _≤_, _<_}
 use mathlib.Core.Logic.{⊎-elim}
 use types.Run.{OneOf}
 use denote.Enum.Declared.{tagOf}
 use Rattle.table.specs.Settings.{limitOf}
-use Rattle.asdu.specs.Cause.{activationConfirmation}
 use Rattle.asdu.proofs.command.Reading.{the-type}
-use Rattle.answers.specs.System.{pointsRead, qualifierOf, interrogationAnswer, counterAnswer, afterCounters, readAnswer, clockFrom, isSilent, commandSaid, systemFrom, systemSaid}
+use Rattle.answers.specs.System.{echoed, pointsRead, qualifierOf, interrogationAnswer, counterAnswer, afterCounters, readAnswer, clockFrom, isSilent, commandSaid, systemFrom, systemSaid}
 use native.Mathlib.Omega.{arith}
 use lib.ListN.{length}
 use borrow.Author.Tests.{eq-eqb, ne-eqb}
@@ -23,8 +22,7 @@ use Rattle.asdu.specs.declared.command.Command.{Command}
 use Rattle.asdu.specs.declared.command.Reading.{Reading}
 use Rattle.asdu.specs.declared.command.Reading.the-variants.{LengthOutOfRange, TypeNotServed, ObjectsNotWhole, Parsed}
 use Rattle.asdu.specs.declared.command.Entry.the-variants.{SystemCommands}
-use Rattle.asdu.specs.Command.{readAs, outcomeOf}
-use Rattle.asdu.specs.Confirmation.{echo}
+use Rattle.asdu.specs.Command.{readAs, outcomeOf, objectAt}
 use Rattle.asdu.proofs.Reading.{parsed-is}
 use Rattle.answers.specs.Said.{says}
 use Rattle.system_command_handler.specs.Handler.{isSkipped}
@@ -35,7 +33,7 @@ pub record Sizes (m : List ℕ) (c : Command) : Type 0 where
   pub small : c .element ≤ 12
   pub least : 6 ≤ length m
   pub few : c .count < 128
-  pub octets : length m ≡ 6 + c .count * (3 + c .element)
+  pub octets : length m ≡ objectAt (c .element) (c .count)
   pub element : c .element ≡ elementOctets (c .kind)
 
 pub sizes-of : (limit : ℕ) (m : List ℕ) (c : Command) → readAs limit SystemCommands m ≡ Parsed c → Sizes m c
@@ -50,10 +48,10 @@ sizes-of limit m c e =
     }
 
 -- the octets of the elements that matter
-pub element-is : (k e : ℕ) → elementOctets k ≡ e → (c : Command) (m : List ℕ) → Sizes m c → c .kind ≡ k → (c .element ≡ e) × (length m ≡ 6 + c .count * (3 + e))
+pub element-is : (k e : ℕ) → elementOctets k ≡ e → (c : Command) (m : List ℕ) → Sizes m c → c .kind ≡ k → (c .element ≡ e) × (length m ≡ objectAt e (c .count))
 element-is k e d c m s q =
     let f : c .element ≡ e = s .element ∙ ap elementOctets q ∙ d in
-    (f, s .octets ∙ ap (λ (x : ℕ). 6 + c .count * (3 + x)) f)
+    (f, s .octets ∙ ap (λ (x : ℕ). objectAt x (c .count)) f)
 
 pub one-octet : (elementOctets 100 ≡ 1) × (elementOctets 101 ≡ 1) × (elementOctets 102 ≡ 0) × (elementOctets 103 ≡ 7)
 unfolding elementOctets octetsIn namedTypes pointTypes systemTypes processTypes endTypes
@@ -76,11 +74,11 @@ module _ (clock m : List ℕ) (c : Command) (t : Table) where
   said-read n₁ n₂ e = simp (ne-eqb _ _ n₁, ne-eqb _ _ n₂, eq-eqb _ _ e)
 
   module _ (n₁ : c .kind ≡ 100 → ⊥) (n₂ : c .kind ≡ 101 → ⊥) (n₃ : c .kind ≡ 102 → ⊥) where
-    pub said-clock : c .kind ≡ 103 → commandSaid clock m c t ≡ says (echo c m activationConfirmation false) t (clockFrom m)
+    pub said-clock : c .kind ≡ 103 → commandSaid clock m c t ≡ says (echoed c m false ∷ []) t (clockFrom m)
     unfolding commandSaid
     said-clock e = simp (ne-eqb _ _ n₁, ne-eqb _ _ n₂, ne-eqb _ _ n₃, eq-eqb _ _ e)
 
-    pub said-echo : (c .kind ≡ 103 → ⊥) → commandSaid clock m c t ≡ says (echo c m activationConfirmation false) t clock
+    pub said-echo : (c .kind ≡ 103 → ⊥) → commandSaid clock m c t ≡ says (echoed c m false ∷ []) t clock
     unfolding commandSaid
     said-echo e = simp (ne-eqb _ _ n₁, ne-eqb _ _ n₂, ne-eqb _ _ n₃, ne-eqb _ _ e)
 

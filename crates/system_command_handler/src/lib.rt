@@ -18,20 +18,19 @@ use reads::Asked;
 use seats::Seat;
 ghost use mathlib.Core.Path.{_≡_};
 ghost use mathlib.Core.Bool.{true, false};
+ghost use mathlib.Core.List.{[], _∷_};
 ghost use Prim.Native.Nat.{_+_, _≤_, _<_};
 ghost use lib.ListN.{length};
 ghost use Rattle.limits.specs.Test.{pick};
-ghost use Rattle.limits.specs.Size.{headerOctets, addressOctets, countLimit};
+ghost use Rattle.limits.specs.Size.{countLimit};
 ghost use Rattle.limits.specs.Outcome.{isDone};
 ghost use Rattle.table.specs.Memory.{wellFormed, tableOf};
 ghost use Rattle.table.specs.Settings.{limitOf};
-ghost use Rattle.asdu.specs.Cause.{activationConfirmation};
-ghost use Rattle.asdu.specs.Confirmation.{echo};
-ghost use Rattle.asdu.specs.Command.{readAs, objectAt};
+ghost use Rattle.asdu.specs.Command.{readAs, objectAt, firstElement};
 ghost use Rattle.asdu.specs.declared.command.Entry.the-variants.{SystemCommands};
 ghost use Rattle.asdu.specs.declared.command.Reading.the-variants.{Parsed};
 ghost use Rattle.answers.specs.Said.{asItIs, Leaves, Sends};
-ghost use Rattle.answers.specs.System.{pointsRead, readAnswer, clockFrom, causeTaken, commandSaid, systemSaid};
+ghost use Rattle.answers.specs.System.{echoed, pointsRead, readAnswer, clockFrom, causeTaken, commandSaid, systemSaid};
 ghost use Rattle.system_command_handler.specs.Handler.{atEntry, atExit, isSkipped, withClock};
 
 // What the entry gives back: the number and octets, and the last master clock, seven octets and the known flag.
@@ -44,7 +43,7 @@ pub struct SystemAnswered {
 
 // The echo of all objects, negative where an address is missing; else one ASDU for each object, in the command's order.
 fn handle_read(answer: &mut [u8], table: &[u8], command: Command, asdu: &[u8]) -> Answered
-    requires { ⌜ (wellFormed (now table) ≡ true) × (0 < command .count) × (command .count ≤ countLimit) × (length (now asdu) ≡ objectAt 0 (command .count)) ⌝ }
+    requires { ⌜ (wellFormed (now table) ≡ true) × (0 < command .count) × (command .count ≤ countLimit) × (command .element ≡ 0) × (length (now asdu) ≡ objectAt 0 (command .count)) ⌝ }
     ensures { λ r. ⌜ Sends (readAnswer command (now (asdu .entry)) (pointsRead command (now (asdu .entry)) (tableOf (now (table .entry))))) (now (answer .entry)) r (now (answer .exit)) ⌝ }
 {
     let Seat::Here(_, first, h) = seats::seat_at(table, command.ca as usize) else {
@@ -76,7 +75,7 @@ fn handle_read(answer: &mut [u8], table: &[u8], command: Command, asdu: &[u8]) -
 
 // The first object's time, and that it is known.
 fn clock_of(asdu: &[u8]) -> [u8; 8]
-    requires { ⌜ headerOctets + addressOctets + 7 ≤ length (now asdu) ⌝ }
+    requires { ⌜ firstElement + 7 ≤ length (now asdu) ⌝ }
     ensures { λ r. ⌜ r ≡ clockFrom (now (asdu .entry)) ⌝ }
 {
     let at = HEADER_OCTETS + ADDRESS_OCTETS;
@@ -109,8 +108,8 @@ fn handle_clock_sync(
     command: Command,
     asdu: &[u8],
 ) -> SystemAnswered
-    requires { ⌜ headerOctets + addressOctets + 7 ≤ length (now asdu) ⌝ }
-    ensures { λ r. ⌜ Sends (echo command (now (asdu .entry)) activationConfirmation false) (now (answer .entry)) (r .answered) (now (answer .exit)) ⌝ }
+    requires { ⌜ (length (now asdu) ≡ objectAt (command .element) (command .count)) × (firstElement + 7 ≤ length (now asdu)) ⌝ }
+    ensures { λ r. ⌜ Sends (echoed command (now (asdu .entry)) false ∷ []) (now (answer .entry)) (r .answered) (now (answer .exit)) ⌝ }
     ensures { λ r. ⌜ r .clock ≡ pick (isDone (r .answered .outcome)) (clockFrom (now (asdu .entry))) clock ⌝ }
 {
     let answered = confirming::echo(answer, command, asdu, false);

@@ -33,7 +33,7 @@ report-requires : tie.Need-report-requires
 report-requires c κs =
     let start = c .before .before .before .before .before .before .before .before in
     let p = start .pre in
-    (p .0, p .1, p .2, subst (λ (x : Choice). CauseOf x (start .args .cause)) (c .before .before .choice .given .1) (p .3), p .4)
+    (p .0, p .1, subst (λ (x : Choice). CauseOf x (start .args .cause)) (c .before .before .choice .given .1) (p .2), p .3)
 
 same-length-2 : tie.Need-same-length-2
 same-length-2 c = search needs

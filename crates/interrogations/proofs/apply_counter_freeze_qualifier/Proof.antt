@@ -3,7 +3,7 @@ use mathlib.Core.Path.{ap, _∙_}
 use denote.Ref.{now}
 use Rattle.octets.specs.Number.{Octets}
 use Rattle.table.proofs.Parse.{passed}
-use Rattle.output.specs.declared.reach.Reach.{Reach}
+use Rattle.report.specs.declared.Reach.{Reach}
 use Rattle.output.proofs.Reached.{reached}
 use Rattle.resets.specs.Resets.{resetPlaces}
 use Rattle.interrogations.proofs.Resets.{reach-reset}

@@ -48,7 +48,7 @@ answer-to-requires c κs =
     let cause = c .before .before .before .counter-interrogation-data-cot .ensures in
     let choice = c .before .before .before .before .chosen .ensures in
     let caused = subst (λ (x : Choice). CauseOf x (counterCause q)) (sym choice) (chosen-cause q) in
-    (start .pre .0, counter-slots .0, counter-slots .1, subst (CauseOf (c .before .before .before .before .chosen .result)) (sym cause) caused, start .pre .1 .0)
+    (start .pre .0, counter-slots, subst (CauseOf (c .before .before .before .before .chosen .result)) (sym cause) caused, start .pre .1 .0)
 
 is-done-requires : tie.Need-is-done-requires
 is-done-requires c κs = search needs

@@ -1,11 +1,8 @@
 -- The types are the table's, the qualifier is the cause. Assumes nothing.
 use mathlib.Core.Path.{sym, ap, subst, _∙_}
-use mathlib.Core.List.{List}
-use Prim.Native.Nat.{ℕ, _≤_}
-use lib.ListN.{length}
 use denote.Ref.{now}
 use Rattle.table.specs.Memory.{tableOf}
-use Rattle.output.specs.Data.{Slots}
+use Rattle.output.specs.Data.{TypesOk}
 use Rattle.answers.specs.declared.Choice.{Choice}
 use Rattle.answers.specs.System.{interrogated, answerTo, interrogationAnswer}
 use Rattle.answers.proofs.Ends.{sends-along}
@@ -32,9 +29,8 @@ answer-to-requires c κs =
     let start = c .before .before .before .before .before .before .before .before in
     let t = tableOf (now (start .args .table)) in
     let types = c .before .before .before .before .interrogation-types-of .ensures in
-    let s = interrogation-slots t in
     let q = c .before .before .before .qualifier-of .result in
-    (start .pre .0, subst (λ (x : List ℕ). length x ≤ 64) (sym types) (s .0), subst Slots (sym types) (s .1), subst (λ (x : Choice). CauseOf x q) (sym (c .interrogated .ensures)) (interrogated-cause q), start .pre .1 .0)
+    (start .pre .0, subst TypesOk (sym types) (interrogation-slots t), subst (λ (x : Choice). CauseOf x q) (sym (c .interrogated .ensures)) (interrogated-cause q), start .pre .1 .0)
 
 same-length : tie.Need-same-length
 same-length c = search needs
