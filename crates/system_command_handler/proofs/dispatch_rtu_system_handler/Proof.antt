@@ -10,7 +10,6 @@ use Rattle.table.specs.Table.{Table}
 use Rattle.table.specs.Memory.{tableOf}
 use Rattle.table.specs.Settings.{limitOf}
 use Rattle.registry.specs.Effect.{holding}
-use Rattle.asdu.specs.Confirmation.{echo}
 use Rattle.answers.specs.Said.{Said, Lent, lent}
 use Rattle.answers.specs.System.{commandSaid}
 use Rattle.answers.proofs.Ends.{ends-sent, ends-says}
@@ -92,7 +91,7 @@ handle-read-requires c κs =
     let start = c .before .before .before .before .before .before .before .before in
     let z = sizesIn start in
     let y = element-is 102 0 (one-octet .2) (start .args .command) (now (start .args .asdu)) z (c .before .before .if3 .taken) in
-    (start .pre .0, start .pre .2, omega (arith, z .few), y .1)
+    (start .pre .0, start .pre .2, omega (arith, z .few), y .0, y .1)
 
 with-clock-requires-3 : tie.Need-with-clock-requires-3
 with-clock-requires-3 c κs = search needs
@@ -116,7 +115,7 @@ handle-clock-sync-requires c κs =
     let start = c .before .before .before .before .before .before .before .before in
     let there = start .pre .2 in
     let y = element-is 103 7 (one-octet .3) (start .args .command) (now (start .args .asdu)) (sizesIn start) (c .before .if4 .taken) in
-    omega (arith, y .1)
+    (sizesIn start .octets, omega (arith, y .1))
 
 same-length-7 : tie.Need-same-length-7
 same-length-7 c = search needs
@@ -131,7 +130,7 @@ returns-4 c =
     ends-says (saidIn start) (lentIn start) (start .pre .0) o _ _ S _ _ _ (e .0) (e .1)
 
 echo-requires : tie.Need-echo-requires
-echo-requires c κs = sizesIn (c .before .before .before .before .before .before .before .before) .least
+echo-requires c κs = sizesIn (c .before .before .before .before .before .before .before .before) .octets
 
 with-clock-requires-4 : tie.Need-with-clock-requires-4
 with-clock-requires-4 c κs = search needs

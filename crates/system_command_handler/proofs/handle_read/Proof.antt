@@ -1,17 +1,22 @@
 -- No station, an address missing, or every address known. Assumes nothing.
-use mathlib.Core.Path.{sym, ap, _∙_}
-use mathlib.Core.Bool.{false}
+use mathlib.Core.Path.{_≡_, sym, ap, _∙_}
+use Prim.Native.Nat.{ℕ}
 use lib.ListN.{length}
 use denote.Ref.{now}
 use Rattle.octets.specs.Number.{Octets}
 use Rattle.table.proofs.Parse.{passed}
-use Rattle.asdu.proofs.Lengths.{length-echo}
+use Rattle.asdu.specs.Command.{objectAt}
+use Rattle.answers.specs.Said.{size}
 use Rattle.reads.proofs.Entry.{Requested, read-bounds, requested-law, missing-address-law, unplanned-read-law}
 use Rattle.system_command_handler.proofs.Laws.{read-denied, read-short, read-written}
 use borrow.Author.Needs.{needs}
 use native.Mathlib.Omega.{arith}
 use Rattle.system_command_handler.proofs.handle_read.Statement.{statement}
 use Rattle.system_command_handler.proofs.handle_read.Tie as tie
+
+-- the objects are whole
+whole-in : (s : tie.Start) → length (now (s .args .asdu)) ≡ objectAt (s .args .command .element) (s .args .command .count)
+whole-in s = s .pre .4 ∙ ap (λ (e : ℕ). objectAt e (s .args .command .count)) (sym (s .pre .3))
 
 -- every address is known
 all-known : (c : tie.After-octets) → Requested (now (c .before .before .before .before .before .before .before .before .before .before .before .args .table)) (c .before .before .before .before .first .given .0 .1 .0) (c .before .before .before .before .first .given .0 .1 .1 .0) (c .before .before .before .before .before .before .before .before .before .before .before .args .command) (now (c .before .before .before .before .before .before .before .before .before .before .before .args .asdu)) (c .octets .given .0 .0)
@@ -38,7 +43,7 @@ enum-told : tie.Need-enum-told
 enum-told c = search needs
 
 echo-requires : tie.Need-echo-requires
-echo-requires c κs = search needs
+echo-requires c κs = whole-in (c .before .before .before .before .before .before .before .before)
 
 same-length : tie.Need-same-length
 same-length c = search needs
@@ -57,7 +62,7 @@ read-octets-requires c κs =
     let o : Octets t = λ k. omega (arith, c .before .before .before .before .before .before .shared-slice-known .given k) in
     let g = c .before .first .given in
     let b = read-bounds t (g .0 .0) (g .0 .1 .0) (g .0 .1 .1 .0) o (start .pre .0) (start .args .command) (sym (c .before .before .before .seat-at .ensures) ∙ g .1) in
-    (b, omega (arith, start .pre .3), start .pre .2)
+    (b, omega (arith, start .pre .4), start .pre .2)
 
 enum-known-octets : tie.Need-enum-known-octets
 enum-known-octets c = search needs
@@ -66,7 +71,7 @@ enum-told-2 : tie.Need-enum-told-2
 enum-told-2 c = search needs
 
 echo-requires-2 : tie.Need-echo-requires-2
-echo-requires-2 c κs = search needs
+echo-requires-2 c κs = whole-in (c .before .before .before .before .before .before .before .before .before .before .before .before)
 
 same-length-2 : tie.Need-same-length-2
 same-length-2 c = search needs
@@ -91,7 +96,7 @@ returns-3 c =
     let start = c .before .before .before .before .before .before .before .before .before .before .before .before .before .before in
     let a = start .args in
     rw (c .nothing .ensures)
-    (read-short (now (a .table)) _ _ (a .command) (now (a .asdu)) (now (a .answer)) _ (all-known (c .before .before .before)) (omega (arith, start .pre .3)) (omega arith))
+    (read-short (now (a .table)) _ _ (a .command) (now (a .asdu)) (now (a .answer)) _ (all-known (c .before .before .before)) (whole-in start) (omega arith))
 
 sub-if2 : tie.Need-sub-if2
 sub-if2 c = search needs
@@ -104,15 +109,12 @@ returns-4 c =
     let start = c .before .before .before .before .before .before .before .before .before .before .before .before .before .before .before in
     let a = start .args in
     rw (c .nothing2 .ensures)
-    (read-short (now (a .table)) _ _ (a .command) (now (a .asdu)) (now (a .answer)) _ (all-known (c .before .before .before .before)) (omega (arith, start .pre .3)) (omega arith))
+    (read-short (now (a .table)) _ _ (a .command) (now (a .asdu)) (now (a .answer)) _ (all-known (c .before .before .before .before)) (whole-in start) (omega arith))
 
 put-echo-requires : tie.Need-put-echo-requires
 put-echo-requires c κs =
     let start = c .before .before .before .before .before .before .before .before .before .before .before .before .before .before .before in
-    let a = start .args in
-    let whole = start .pre .3 in
-    let l = length-echo (a .command) (now (a .asdu)) 7 false (omega arith) in
-    (omega arith, omega arith, omega arith)
+    (omega arith, whole-in start, omega arith)
 
 put-requested-requires : tie.Need-put-requested-requires
 put-requested-requires c κs =
@@ -123,9 +125,9 @@ put-requested-requires c κs =
     let b = read-bounds t (g .0 .0) (g .0 .1 .0) (g .0 .1 .1 .0) o (start .pre .0) (start .args .command) (sym (c .before .before .before .before .before .before .before .before .before .before .before .before .before .before .seat-at .ensures) ∙ g .1) in
     let z = all-known (c .before .before .before .before .before .before .before .before) in
     let n = z .is-octets in
-    let l = ap length (z .is-data) in
+    let l = ap size (z .is-data) in
     let kept = c .before .before .before .put-echo .kept .0 in
-    ((b, omega (arith, start .pre .3)), omega arith)
+    ((b, omega (arith, start .pre .4)), omega arith)
 
 given-requires : tie.Need-given-requires
 given-requires c κs = search needs
@@ -138,7 +140,7 @@ returns-5 c =
     let start = c .before .before .before .before .before .before .before .before .before .before .before .before .before .before .before .before .before .before .before .before .before .before .before in
     let a = start .args in
     rw (c .given .ensures)
-    (read-written (now (a .table)) _ _ (a .command) (now (a .asdu)) (now (a .answer)) _ (all-known (c .before .before .before .before .before .before .before .before .before .before .before .before)) (omega (arith, start .pre .3)) (omega arith) _ _ _
+    (read-written (now (a .table)) _ _ (a .command) (now (a .asdu)) (now (a .answer)) _ (all-known (c .before .before .before .before .before .before .before .before .before .before .before .before)) (whole-in start) (omega arith) _ _ _
     (c .before .before .before .before .before .before .before .put-echo .ensures .1) (c .before .before .before .put-requested .ensures))
 
 pub handle-read-spec : {M : Type 1} → statement M
