@@ -15,7 +15,7 @@ use Rattle.seats.specs.declared.Seat.{Seat}
 use Rattle.seats.specs.declared.Seat.the-variants.{Here, NotPlanned}
 use Rattle.seats.specs.Seats.{seatAt}
 use Rattle.report.specs.declared.Selection.{Selection}
-use Rattle.output.specs.declared.reach.Reach.{Reach}
+use Rattle.report.specs.declared.Reach.{Reach}
 use Rattle.output.specs.Reach.{seatReach, reachOf}
 use Rattle.registry.specs.Effect.{holding}
 use Rattle.answers.specs.System.{resetAt}

@@ -1,197 +1,165 @@
-// Interrogation and counter interrogation: which points a command asks for, and the answer to it. From `handle_interrogation` of `actor.rs`,
-// `DefaultRtuCounterInterrogationHandler` of `system_command_handler.rs`, `interrogation_data_cot` and `counter_interrogation_data_cot` of `output.rs`.
+// Interrogation and counter interrogation: which points a command asks for, the answer to it, and the reset of counters. From `handle_interrogation`
+// of `actor.rs`, `handle_counter_interrogation` of `system_command_handler.rs`, `interrogation_data_cot` and `counter_interrogation_data_cot` of `output.rs`.
 use answers::Answered;
+use answers::Choice;
 use asdu::command::Command;
 use asdu::cot;
-use output::reach;
+use limits::size::ADDRESS_OCTETS;
+use limits::size::HEADER_OCTETS;
+use model::M_IT_NA_1;
+use model::M_IT_TB_1;
 use report::Selection;
 ghost use mathlib.Core.Path.{_≡_};
 ghost use mathlib.Core.Bool.{true};
-ghost use Prim.Native.Nat.{_+_, _*_, _≤_, _<_};
+ghost use Prim.Native.Nat.{_≤_, _<_};
 ghost use lib.ListN.{length};
+ghost use Rattle.limits.specs.Test.{pick};
+ghost use Rattle.limits.specs.Outcome.{isDone};
 ghost use Rattle.table.specs.Memory.{wellFormed, tableOf};
-ghost use Rattle.limits.specs.Size.{standardLimit};
-ghost use Rattle.output.specs.Data.{Slots};
-ghost use Rattle.registry.specs.Effect.{holding};
-ghost use Rattle.answers.specs.System.{reported, denied, resetAt, interrogated, qualifierOf, interrogationAnswer, chosen, choiceOf, counterAnswer, afterCounters};
-ghost use Rattle.confirming.specs.Sending.{sent, left};
+ghost use Rattle.asdu.specs.Command.{firstElement};
+ghost use Rattle.output.specs.Data.{TypesOk};
+ghost use Rattle.answers.specs.Said.{Sends, withTable};
+ghost use Rattle.answers.specs.System.{qualifierOf, interrogated, chosen, counterCause, resets, resetBy, answerTo, interrogationAnswer, counterAnswer, afterCounters};
+ghost use Rattle.confirming.specs.Sending.{HasFirst};
+ghost use Rattle.interrogations.specs.Interrogations.{CauseOf, HasQualifier};
 
-// The types of a global or group interrogation.
-const INTERROGATION_TYPES: [u8; 30] = [
-    1,
-    2,
-    3,
-    4,
-    5,
-    6,
-    7,
-    9,
-    10,
-    11,
-    12,
-    13,
-    14,
-    15,
-    17,
-    18,
-    19,
-    20,
-    21,
-    30,
-    31,
-    32,
-    33,
-    34,
-    35,
-    36,
-    37,
-    38,
-    39,
-    40,
-];
+// ---- what a qualifier asks for
 
-// The types of a counter interrogation.
-const COUNTER_TYPES: [u8; 2] = [15, 37];
-
-// One negative confirmation alone.
-fn deny(answer: &mut [u8], command: Command, asdu: &[u8]) -> Answered
-    requires { ⌜ (command .element ≤ 12) × (9 + command .element ≤ length (now asdu)) ⌝ }
-    ensures { λ r. ⌜ (r ≡ sent (denied command (now (asdu .entry))) (now (answer .entry))) × (now (answer .exit) ≡ left (denied command (now (asdu .entry))) (now (answer .entry))) ⌝ }
+// The qualifier octet of the first object.
+pub fn qualifier_of(asdu: &[u8]) -> u8
+    requires { ⌜ firstElement < length (now asdu) ⌝ }
+    ensures { λ r. ⌜ r ≡ qualifierOf (now (asdu .entry)) ⌝ }
 {
-    confirming::confirm(answer, command, asdu, cot::ACTIVATION_CONFIRMATION, true)
+    asdu[HEADER_OCTETS + ADDRESS_OCTETS]
 }
 
-// The selected points of the command's common address between confirmation and termination.
-fn report_selected(
-    answer: &mut [u8],
-    table: &[u8],
-    selection: Selection,
-    types: &[u8],
-    cause: u8,
-    command: Command,
-    asdu: &[u8],
-) -> Answered
-    requires { ⌜ (wellFormed (now table) ≡ true) × (length (now types) ≤ 64) × Slots (now types) × (cause < 64) × (command .element ≤ 12) × (9 + command .element ≤ length (now asdu)) ⌝ }
-    ensures { λ r. ⌜ (r ≡ sent (reported standardLimit command (now (asdu .entry)) (now (types .entry)) cause selection (tableOf (now (table .entry)) .stations)) (now (answer .entry))) × (now (answer .exit) ≡ left (reported standardLimit command (now (asdu .entry)) (now (types .entry)) cause selection (tableOf (now (table .entry)) .stations)) (now (answer .entry))) ⌝ }
+// An interrogation's: 20 selects all points, 21 to 36 those of group 1 to 16.
+fn interrogated(qualifier: u8) -> Choice
+    ensures { λ r. ⌜ r ≡ interrogated qualifier ⌝ }
 {
-    let reached = reach::reach_of(table, command.ca);
-    confirming::report(
-        answer,
-        table,
-        reached.base,
-        reached.n,
-        reached.every,
-        selection,
-        types,
-        cause,
-        command,
-        asdu,
-    )
-}
-
-// The answer to an interrogation: qualifier 20, or 21 to 36; any other is denied.
-pub fn interrogate(answer: &mut [u8], table: &[u8], command: Command, asdu: &[u8]) -> Answered
-    requires { ⌜ (wellFormed (now table) ≡ true) × (command .element ≤ 12) × (9 + command .element ≤ length (now asdu)) × (10 ≤ length (now asdu)) ⌝ }
-    ensures { λ r. ⌜ (r ≡ sent (interrogationAnswer standardLimit command (now (asdu .entry)) (interrogated (qualifierOf (now (asdu .entry)))) (tableOf (now (table .entry)) .stations)) (now (answer .entry))) × (now (answer .exit) ≡ left (interrogationAnswer standardLimit command (now (asdu .entry)) (interrogated (qualifierOf (now (asdu .entry)))) (tableOf (now (table .entry)) .stations)) (now (answer .entry))) ⌝ }
-{
-    let types = INTERROGATION_TYPES;
-    let qualifier = asdu[9];
     if qualifier == cot::INTERROGATION_GENERAL {
-        return report_selected(
-            answer,
-            table,
-            Selection::Every,
-            &types,
-            qualifier,
-            command,
-            asdu,
-        );
+        return Choice::Selected(Selection::Every);
     }
     if qualifier < 21 {
-        return deny(answer, command, asdu);
+        return Choice::Denied;
     }
     if 36 < qualifier {
-        return deny(answer, command, asdu);
+        return Choice::Denied;
     }
-    report_selected(
-        answer,
-        table,
-        Selection::Group(qualifier - cot::INTERROGATION_GENERAL),
-        &types,
-        qualifier,
-        command,
-        asdu,
-    )
+    Choice::Selected(Selection::Group(
+        qualifier - cot::INTERROGATION_GENERAL,
+    ))
 }
 
-// The answer to a counter interrogation: choice 5, or 1 to 4; any other is denied. It shows the values before a reset.
-pub fn interrogate_counters(
+// A counter interrogation's: bits 0 to 5 choose, 5 all counters, 1 to 4 a group.
+fn chosen(qualifier: u8) -> Choice
+    ensures { λ r. ⌜ r ≡ chosen qualifier ⌝ }
+{
+    let choice = qualifier % 64;
+    if choice == 5 {
+        return Choice::Selected(Selection::Every);
+    }
+    if choice < 1 {
+        return Choice::Denied;
+    }
+    if 4 < choice {
+        return Choice::Denied;
+    }
+    Choice::Selected(Selection::CounterGroup(choice))
+}
+
+// The cause of its data: 37 for all, 37 + group for a group.
+fn counter_interrogation_data_cot(qualifier: u8) -> u8
+    ensures { λ r. ⌜ r ≡ counterCause qualifier ⌝ }
+{
+    let choice = qualifier % 64;
+    if choice == 5 {
+        return cot::COUNTER_INTERROGATION_GENERAL;
+    }
+    cot::COUNTER_INTERROGATION_GENERAL + choice
+}
+
+// ---- the answer
+
+// What a choice is answered by: its report, or one negative confirmation.
+fn answer_to(
+    answer: &mut [u8],
+    table: &[u8],
+    types: &[u8],
+    cause: u8,
+    choice: Choice,
+    command: Command,
+    asdu: &[u8],
+) -> Answered
+    requires { ⌜ (wellFormed (now table) ≡ true) × TypesOk (now types) × CauseOf choice cause × HasFirst command (now asdu) ⌝ }
+    ensures { λ r. ⌜ Sends (answerTo (tableOf (now (table .entry))) command (now (asdu .entry)) (now (types .entry)) cause choice) (now (answer .entry)) r (now (answer .exit)) ⌝ }
+{
+    let Choice::Selected(selection) = choice else {
+        return confirming::deny(answer, command, asdu);
+    };
+    confirming::report(answer, table, types, cause, selection, command, asdu)
+}
+
+// The answer to an interrogation.
+pub fn handle_interrogation(
     answer: &mut [u8],
     table: &[u8],
     command: Command,
     asdu: &[u8],
 ) -> Answered
-    requires { ⌜ (wellFormed (now table) ≡ true) × (command .element ≤ 12) × (9 + command .element ≤ length (now asdu)) × (10 ≤ length (now asdu)) ⌝ }
-    ensures { λ r. ⌜ (r ≡ sent (counterAnswer standardLimit command (now (asdu .entry)) (chosen (choiceOf (qualifierOf (now (asdu .entry))))) (tableOf (now (table .entry)) .stations)) (now (answer .entry))) × (now (answer .exit) ≡ left (counterAnswer standardLimit command (now (asdu .entry)) (chosen (choiceOf (qualifierOf (now (asdu .entry))))) (tableOf (now (table .entry)) .stations)) (now (answer .entry))) ⌝ }
+    requires { ⌜ (wellFormed (now table) ≡ true) × HasQualifier command (now asdu) ⌝ }
+    ensures { λ r. ⌜ Sends (interrogationAnswer command (now (asdu .entry)) (tableOf (now (table .entry)))) (now (answer .entry)) r (now (answer .exit)) ⌝ }
 {
-    let types = COUNTER_TYPES;
-    let choice = asdu[9] % 64;
-    if choice == 5 {
-        return report_selected(
-            answer,
-            table,
-            Selection::Every,
-            &types,
-            cot::COUNTER_INTERROGATION_GENERAL,
-            command,
-            asdu,
-        );
-    }
-    if choice < 1 {
-        return deny(answer, command, asdu);
-    }
-    if 4 < choice {
-        return deny(answer, command, asdu);
-    }
-    report_selected(
+    let types = settings::interrogation_types_of(table);
+    let qualifier = qualifier_of(asdu);
+    answer_to(
         answer,
         table,
-        Selection::CounterGroup(choice),
         &types,
-        cot::COUNTER_INTERROGATION_GENERAL + choice,
+        qualifier,
+        interrogated(qualifier),
         command,
         asdu,
     )
 }
 
-// Resets the selected counters of a common address.
-fn reset_selected(table: &mut [u8], selection: Selection, ca: u16)
-    requires { ⌜ wellFormed (now table) ≡ true ⌝ }
-    ensures { λ _. ⌜ now (table .exit) ≡ holding (now (table .entry)) (tableOf (now (table .entry))) (resetAt (tableOf (now (table .entry))) ca selection) ⌝ }
-{
-    let reached = reach::reach_of(table, ca);
-    resets::reset(table, reached.base, reached.n, selection);
-}
+// ---- counters
 
-// What a counter interrogation that was answered does to the table: actions 2 and 3 reset what was reported, 0 and 1 change nothing.
-pub fn reset_counters(table: &mut [u8], command: Command, asdu: &[u8])
-    requires { ⌜ (wellFormed (now table) ≡ true) × (10 ≤ length (now asdu)) ⌝ }
-    ensures { λ _. ⌜ now (table .exit) ≡ holding (now (table .entry)) (tableOf (now (table .entry))) (afterCounters (tableOf (now (table .entry))) (command .ca) (qualifierOf (now (asdu .entry))) (chosen (choiceOf (qualifierOf (now (asdu .entry)))))) ⌝ }
+// Actions 2 and 3 of a counter interrogation set what was reported to 0; 0 and 1, and a choice that was denied, change nothing.
+fn apply_counter_freeze_qualifier(table: &mut [u8], ca: u16, choice: Choice, qualifier: u8)
+    requires { ⌜ wellFormed (now table) ≡ true ⌝ }
+    ensures { λ _. ⌜ now (table .exit) ≡ withTable (λ t. pick (resets qualifier) (resetBy t ca choice) t) (now (table .entry)) ⌝ }
 {
-    let qualifier = asdu[9];
-    let choice = qualifier % 64;
     if qualifier / 64 < 2 {
         return;
     }
-    if choice == 5 {
-        reset_selected(table, Selection::Every, command.ca);
+    let Choice::Selected(selection) = choice else {
         return;
+    };
+    let reach = output::reach::reach_of(table, ca);
+    resets::reset(table, reach.base, reach.n, selection);
+}
+
+// The answer to a counter interrogation, which shows the values before a reset; then the reset, if the answer was given.
+pub fn handle_counter_interrogation(
+    table: &mut [u8],
+    answer: &mut [u8],
+    command: Command,
+    asdu: &[u8],
+) -> Answered
+    requires { ⌜ (wellFormed (now table) ≡ true) × HasQualifier command (now asdu) ⌝ }
+    ensures { λ r. ⌜ Sends (counterAnswer command (now (asdu .entry)) (tableOf (now (table .entry)))) (now (answer .entry)) r (now (answer .exit)) ⌝ }
+    ensures { λ r. ⌜ now (table .exit) ≡ pick (isDone (r .outcome)) (withTable (λ t. afterCounters t (command .ca) (qualifierOf (now (asdu .entry)))) (now (table .entry))) (now (table .entry)) ⌝ }
+{
+    let types = [M_IT_NA_1, M_IT_TB_1];
+    let qualifier = qualifier_of(asdu);
+    let choice = chosen(qualifier);
+    let cause = counter_interrogation_data_cot(qualifier);
+    let answered = answer_to(answer, table, &types, cause, choice, command, asdu);
+    let outcome = answered.outcome;
+    if !outcome.is_done() {
+        return answered;
     }
-    if choice < 1 {
-        return;
-    }
-    if 4 < choice {
-        return;
-    }
-    reset_selected(table, Selection::CounterGroup(choice), command.ca);
+    apply_counter_freeze_qualifier(table, command.ca, choice, qualifier);
+    answered
 }

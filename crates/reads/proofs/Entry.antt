@@ -1,7 +1,7 @@
 -- The laws as an entry has them, over a well-formed memory: what the code counts and writes are the requested ASDUs of the points asked for,
 -- of a planned station, and an address is missing exactly where the points asked for are none. Assumes nothing.
 use mathlib.Core.Path.{_≡_, refl, sym, ap, _∙_}
-use mathlib.Core.List.{List, [], _∷_, _++_}
+use mathlib.Core.List.{List, [], _∷_, _++_, map}
 use mathlib.Core.Bool.{Bool, true, false}
 use mathlib.Core.Option.{Option, none, some}
 use Prim.Native.Nat.{ℕ, zero, suc, _+_, _*_, _-_, _≤_, _<_}
@@ -15,7 +15,10 @@ use Rattle.octets.specs.Number.{three, Octets}
 use Rattle.model.specs.declared.Point.{Point}
 use Rattle.model.specs.Place.{pointAt}
 use Rattle.layout.specs.Layout.{placeSize}
+use Rattle.asdu.specs.Header.{Asdu, asduOctets, wire}
+use Rattle.asdu.specs.Joined.{joined}
 use Rattle.asdu.specs.declared.command.Command.{Command}
+use Rattle.answers.specs.Said.{size}
 use Rattle.table.specs.Table.{rising}
 use Rattle.table.specs.Memory.{pointsAt, tableOf, wellFormed}
 use Rattle.table.specs.Change.{stationOf, pointIn, known}
@@ -27,7 +30,6 @@ use Rattle.seats.specs.Seats.{seatAt}
 use Rattle.seats.specs.Find.{findAt}
 use Rattle.seats.proofs.Laws.{seat-law, absent-law}
 use Rattle.seats.proofs.Halving.{held-law, missing-law}
-use Rattle.report.specs.Packing.{joined}
 use Rattle.report.specs.Order.{pointsOf}
 use Rattle.report.specs.Single.{requestedAsdu}
 use Rattle.report.proofs.Single.{length-single}
@@ -65,18 +67,18 @@ module _ (a : ℕ) (rest : List ℕ) (ps : List Point) where
 -- what the code counts for the points asked for
 counted : ℕ → Option (List Point) → Asked
 counted ca none = AddressMissing
-counted ca (some ps) = Known (length (joined (requestedAsdu ca) ps))
+counted ca (some ps) = Known (size (map (requestedAsdu ca) ps))
 
 one-more : (m : List ℕ) (ca at : ℕ) (qs : List Point)
-    → 9 + pointOctets (getD m at 0) + length (joined (requestedAsdu ca) qs) ≡ length (joined (requestedAsdu ca) (pointAt m at ∷ qs))
-unfolding joined
+    → 9 + pointOctets (getD m at 0) + size (map (requestedAsdu ca) qs) ≡ size (map (requestedAsdu ca) (pointAt m at ∷ qs))
+unfolding wire joined
 one-more m ca at qs =
-    let l : length (requestedAsdu ca (pointAt m at)) ≡ 9 + pointOctets (getD m at 0) = length-single 5 ca (pointAt m at) refl in
+    let l : length (asduOctets (requestedAsdu ca (pointAt m at))) ≡ 9 + pointOctets (getD m at 0) = length-single 5 ca (pointAt m at) refl in
     simp length-append (omega arith)
 
 module _ (m : List ℕ) (first h ca : ℕ) (asdu : List ℕ) (r : rising 0 (pointsAt m first h) ≡ true) where
   asked-is : (at n : ℕ) → askedAt m first h asdu at n ≡ counted ca (pointsAsked (addressesIn asdu at n) (pointsAt m first h))
-  unfolding askedAt askedOf addressesIn counted pointsAsked joined
+  unfolding askedAt askedOf addressesIn counted pointsAsked wire joined
   asked-is at zero = refl
   asked-is at (suc n) = by-spot (findAt m first h (three asdu at)) refl (asked-is (at + 3) n)
     where
@@ -102,9 +104,9 @@ module _ (m : List ℕ) (first h ca : ℕ) (asdu : List ℕ) (r : rising 0 (poin
       by-spot (Missing p) e ih = ap (counted ca) (sym (asked-none a rest ps (not-in a ps (missing-law m first h a p r e .not-known))))
 
   requested-is : (at n : ℕ) (qs : List Point) → pointsAsked (addressesIn asdu at n) (pointsAt m first h) ≡ some qs
-      → requestedAt m first h ca asdu at n ≡ joined (requestedAsdu ca) qs
-  unfolding requestedAt requestedOf addressesIn pointsAsked joined
-  requested-is at zero qs e = let q : [] ≡ qs = cc in ap (joined (requestedAsdu ca)) q
+      → requestedAt m first h ca asdu at n ≡ map (requestedAsdu ca) qs
+  unfolding requestedAt requestedOf addressesIn pointsAsked
+  requested-is at zero qs e = let q : [] ≡ qs = cc in ap (map (requestedAsdu ca)) q
   requested-is at (suc n) qs e = by-spot (λ x f. requested-is (at + 3) n x f) (findAt m first h (three asdu at)) refl
     where
       a : ℕ
@@ -116,9 +118,9 @@ module _ (m : List ℕ) (first h ca : ℕ) (asdu : List ℕ) (r : rising 0 (poin
       ps : List Point
       ps = pointsAt m first h
 
-      by-rest : ((x : List Point) → pointsAsked rest ps ≡ some x → requestedAt m first h ca asdu (at + 3) n ≡ joined (requestedAsdu ca) x)
+      by-rest : ((x : List Point) → pointsAsked rest ps ≡ some x → requestedAt m first h ca asdu (at + 3) n ≡ map (requestedAsdu ca) x)
           → (p : ℕ) → pointIn a ps ≡ some (pointAt m p) → (x : Option (List Point)) → pointsAsked rest ps ≡ x
-          → requestedAsdu ca (pointAt m p) ++ requestedAt m first h ca asdu (at + 3) n ≡ joined (requestedAsdu ca) qs
+          → requestedAsdu ca (pointAt m p) ∷ requestedAt m first h ca asdu (at + 3) n ≡ map (requestedAsdu ca) qs
       by-rest again p d none f =
           let g : none ≡ some qs = sym (asked-not-all a rest ps (pointAt m p) d f) ∙ e in
           let z : _≡_ {A = ℕ} 0 1 = cc in
@@ -126,10 +128,10 @@ module _ (m : List ℕ) (first h ca : ℕ) (asdu : List ℕ) (r : rising 0 (poin
       by-rest again p d (some x) f =
           let g : some (pointAt m p ∷ x) ≡ some qs = sym (asked-some a rest ps (pointAt m p) x d f) ∙ e in
           let q : pointAt m p ∷ x ≡ qs = cc in
-          ap (λ (l : List ℕ). requestedAsdu ca (pointAt m p) ++ l) (again x f) ∙ ap (joined (requestedAsdu ca)) q
+          ap (λ (l : List Asdu). requestedAsdu ca (pointAt m p) ∷ l) (again x f) ∙ ap (map (requestedAsdu ca)) q
 
-      by-spot : ((x : List Point) → pointsAsked rest ps ≡ some x → requestedAt m first h ca asdu (at + 3) n ≡ joined (requestedAsdu ca) x)
-          → (x : Spot) → findAt m first h a ≡ x → requestedOf m ca x ++ requestedAt m first h ca asdu (at + 3) n ≡ joined (requestedAsdu ca) qs
+      by-spot : ((x : List Point) → pointsAsked rest ps ≡ some x → requestedAt m first h ca asdu (at + 3) n ≡ map (requestedAsdu ca) x)
+          → (x : Spot) → findAt m first h a ≡ x → requestedOf m ca x ++ requestedAt m first h ca asdu (at + 3) n ≡ map (requestedAsdu ca) qs
       by-spot again (Held p) d = by-rest again p (held-law m first h a p r d .is-point) (pointsAsked rest ps) refl
       by-spot again (Missing p) d =
           let g : none ≡ some qs = sym (asked-none a rest ps (not-in a ps (missing-law m first h a p r d .not-known))) ∙ e in
@@ -142,8 +144,8 @@ module _ (m : List ℕ) (first h ca : ℕ) (asdu : List ℕ) (r : rising 0 (poin
 pub record Requested (m : List ℕ) (first h : ℕ) (c : Command) (asdu : List ℕ) (octets : ℕ) : Type 0 where
   pub points : List Point
   pub is-asked : pointsRead c asdu (tableOf m) ≡ some points
-  pub is-octets : octets ≡ length (joined (requestedAsdu (c .ca)) points)
-  pub is-data : requestedBy m first h c asdu ≡ joined (requestedAsdu (c .ca)) points
+  pub is-octets : octets ≡ size (map (requestedAsdu (c .ca)) points)
+  pub is-data : requestedBy m first h c asdu ≡ map (requestedAsdu (c .ca)) points
 
 module _ (m : List ℕ) (i first h : ℕ) (o : Octets m) (w : wellFormed m ≡ true) (c : Command) (e : seatAt m (c .ca) ≡ Here i first h) where
   -- the points at the seat are the station's, and they rise
@@ -168,7 +170,7 @@ module _ (m : List ℕ) (i first h : ℕ) (o : Octets m) (w : wellFormed m ≡ t
         asked-is m first h (c .ca) asdu seat-rises headerOctets (c .count)
         ∙ ap (λ (ps : List Point). counted (c .ca) (pointsAsked (addressesIn asdu headerOctets (c .count)) ps)) seat-points
 
-    data-is : (qs : List Point) → pointsRead c asdu (tableOf m) ≡ some qs → requestedBy m first h c asdu ≡ joined (requestedAsdu (c .ca)) qs
+    data-is : (qs : List Point) → pointsRead c asdu (tableOf m) ≡ some qs → requestedBy m first h c asdu ≡ map (requestedAsdu (c .ca)) qs
     data-is qs f =
         requested-is m first h (c .ca) asdu seat-rises headerOctets (c .count) qs
         (ap (λ (ps : List Point). pointsAsked (addressesIn asdu headerOctets (c .count)) ps) seat-points ∙ f)

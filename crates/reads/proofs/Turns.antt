@@ -12,6 +12,8 @@ use Rattle.limits.specs.Size.{pointOctets}
 use Rattle.limits.proofs.Tests.{both}
 use Rattle.limits.proofs.Sizes.{point-at-most}
 use Rattle.octets.specs.Number.{three}
+use Rattle.asdu.specs.Header.{wire}
+use Rattle.asdu.proofs.Laws.{wire-none, wire-append}
 use Rattle.seats.specs.declared.Spot.{Spot}
 use Rattle.seats.specs.declared.Spot.the-variants.{Held, Missing}
 use Rattle.seats.specs.Find.{ioaAt, halve, spotAt, findAt}
@@ -75,9 +77,12 @@ module _ (m : List ℕ) (first h : ℕ) (asdu : List ℕ) (at n : ℕ) where
         ap (λ (x : ℕ). together (Known octets) (askedAt m first h asdu at x)) one-more
         ∙ ap (λ (x : Asked). together (Known octets) (together x (askedAt m first h asdu (at + 3) (n - 1)))) (sym e)
 
-    pub requested-on : (ca : ℕ) → requestedAt m first h ca asdu at n ≡ requestedOf m ca (findAt m first h (three asdu at)) ++ requestedAt m first h ca asdu (at + 3) (n - 1)
+    pub requested-on : (ca : ℕ)
+        → wire (requestedAt m first h ca asdu at n) ≡ wire (requestedOf m ca (findAt m first h (three asdu at))) ++ wire (requestedAt m first h ca asdu (at + 3) (n - 1))
     unfolding requestedAt
-    requested-on ca = ap (requestedAt m first h ca asdu at) one-more
+    requested-on ca =
+        ap (λ (x : ℕ). wire (requestedAt m first h ca asdu at x)) one-more
+        ∙ wire-append (requestedOf m ca (findAt m first h (three asdu at))) (requestedAt m first h ca asdu (at + 3) (n - 1))
 
   pub asked-end : (octets : ℕ) → n ≤ 0 → together (Known octets) (askedAt m first h asdu at n) ≡ Known octets
   unfolding askedAt
@@ -86,6 +91,6 @@ module _ (m : List ℕ) (first h : ℕ) (asdu : List ℕ) (at n : ℕ) where
       let o : octets + 0 ≡ octets = omega arith in
       ap (λ (x : ℕ). together (Known octets) (askedAt m first h asdu at x)) z ∙ ap Known o
 
-  pub requested-end : (ca : ℕ) → n ≤ 0 → requestedAt m first h ca asdu at n ≡ []
+  pub requested-end : (ca : ℕ) → n ≤ 0 → wire (requestedAt m first h ca asdu at n) ≡ []
   unfolding requestedAt
-  requested-end ca e = let z : n ≡ 0 = omega arith in ap (requestedAt m first h ca asdu at) z
+  requested-end ca e = let z : n ≡ 0 = omega arith in ap (λ (x : ℕ). wire (requestedAt m first h ca asdu at x)) z ∙ wire-none

@@ -9,9 +9,12 @@ ghost use Prim.Native.Nat.{_+_, _*_, _≤_};
 ghost use lib.ListN.{length};
 ghost use Rattle.limits.specs.Size.{headerOctets, countLimit};
 ghost use Rattle.layout.specs.Layout.{placeSize};
+ghost use Rattle.asdu.specs.Header.{wire};
 ghost use Rattle.asdu.specs.Command.{objectAt};
+ghost use Rattle.asdu.specs.Puts.{PutsAt};
 ghost use Rattle.seats.specs.Find.{findAt};
-ghost use Rattle.reads.specs.Reads.{askedOf, askedAt, requestedOf, requestedBy, PutsAt};
+ghost use Rattle.answers.specs.Said.{size};
+ghost use Rattle.reads.specs.Reads.{askedOf, askedAt, requestedOf, requestedBy};
 
 // What a read command asks for: the octets of all requested ASDUs together, or an address that no point has.
 pub enum Asked {
@@ -63,8 +66,8 @@ fn put_found(
     ioa: usize,
     ca: u16,
 ) -> usize
-    requires { ⌜ (first + placeSize * h ≤ length (now m)) × (o + length (requestedOf (now m) ca (findAt (now m) first h ioa)) ≤ length (now out)) ⌝ }
-    ensures { λ r. ⌜ PutsAt o (requestedOf (now (m .entry)) ca (findAt (now (m .entry)) first h ioa)) (now (out .entry)) r (now (out .exit)) ⌝ }
+    requires { ⌜ (first + placeSize * h ≤ length (now m)) × (o + size (requestedOf (now m) ca (findAt (now m) first h ioa)) ≤ length (now out)) ⌝ }
+    ensures { λ r. ⌜ PutsAt o (wire (requestedOf (now (m .entry)) ca (findAt (now (m .entry)) first h ioa))) (now (out .entry)) r (now (out .exit)) ⌝ }
 {
     let Spot::Held(at) = seats::find(m, first, h, ioa) else {
         return o;
@@ -84,8 +87,8 @@ pub fn put_requested(
     asdu: &[u8],
 ) -> usize
     requires { ⌜ (first + placeSize * h ≤ length (now m)) × (objectAt 0 (command .count) ≤ length (now asdu)) ⌝ }
-    requires { ⌜ from + length (requestedBy (now m) first h command (now asdu)) ≤ length (now out) ⌝ }
-    ensures { λ r. ⌜ PutsAt from (requestedBy (now (m .entry)) first h command (now (asdu .entry))) (now (out .entry)) r (now (out .exit)) ⌝ }
+    requires { ⌜ from + size (requestedBy (now m) first h command (now asdu)) ≤ length (now out) ⌝ }
+    ensures { λ r. ⌜ PutsAt from (wire (requestedBy (now (m .entry)) first h command (now (asdu .entry)))) (now (out .entry)) r (now (out .exit)) ⌝ }
 {
     let mut o = from;
     let mut at = HEADER_OCTETS;

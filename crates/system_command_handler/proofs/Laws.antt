@@ -1,37 +1,30 @@
--- How an answer that was written whole or not at all ends the entry, and how two parts written one after another are the whole. Assumes nothing.
+-- Two parts written one after another are the whole; and so the echo and the requested ASDUs are the answer to a read command. Assumes nothing.
 use mathlib.Core.Path.{_≡_, refl, sym, ap, ap₂, _∙_}
-use mathlib.Core.List.{List, [], _∷_, _++_, append-assoc}
-use mathlib.Core.Bool.{Bool, true, false}
-use mathlib.Core.Option.{Option, none, some}
+use mathlib.Core.List.{List, [], _∷_, _++_, append-assoc, map}
 use Prim.Native.Nat.{ℕ, _+_, _-_, _≤_, _<_}
 use native.Mathlib.Omega.{arith}
 use lib.ListN.{length, take, drop, length-append, length-drop, take-append-drop}
 use lib.Seq.{length-take-le}
-use lib.Dec.{leb}
-use borrow.Author.Tests.{leb-true, leb-false}
-use Rattle.limits.specs.Test.{pick}
-use Rattle.limits.specs.Outcome.{isDone}
-use Rattle.limits.specs.declared.outcome.Outcome.{Outcome}
-use Rattle.limits.specs.declared.outcome.Outcome.the-variants.{Done, AnswerShort}
 use Rattle.octets.specs.Over.{over}
 use Rattle.octets.proofs.Laws.{over-at}
-use Rattle.table.specs.Table.{Table}
-use Rattle.table.specs.Memory.{tableOf, wellFormed}
-use Rattle.registry.specs.Effect.{holding}
+use mathlib.Core.Bool.{true, false}
+use mathlib.Core.Option.{Option, none}
+use Rattle.limits.specs.declared.outcome.Outcome.the-variants.{AnswerShort}
+use Rattle.model.specs.declared.Point.{Point}
+use Rattle.table.specs.Memory.{tableOf}
+use Rattle.asdu.specs.Header.{asduOctets, wire}
+use Rattle.asdu.specs.Joined.{joined}
+use Rattle.asdu.specs.Puts.{PutsAt}
+use Rattle.asdu.specs.Command.{objectAt}
+use Rattle.asdu.specs.declared.command.Command.{Command}
+use Rattle.asdu.proofs.Lengths.{length-echo}
+use Rattle.report.specs.Single.{requestedAsdu}
 use Rattle.answers.specs.declared.Answered.{Answered}
-use Rattle.answers.specs.Said.{Said, Lent, fits, fronted, answeredOn, lentAfter}
-use Rattle.answers.proofs.Ends.{Ends, ends-short, ends-done}
-use Rattle.confirming.specs.Sending.{nothing, given, sent, left}
-use Rattle.system_command_handler.specs.Handler.{Leaves, withClock}
-
--- an answer was given exactly if it fits
-pub done-fits : (X m : List ℕ) → isDone (sent X m .outcome) ≡ fits X m
-unfolding sent
-done-fits X m = by-test (fits X m)
-  where
-    by-test : (b : Bool) → isDone (pick b (given (length X)) (nothing AnswerShort) .outcome) ≡ b
-    by-test true = refl
-    by-test false = refl
+use Rattle.answers.specs.Said.{size, nothing, given, Sends}
+use Rattle.answers.specs.System.{echoed, pointsRead, readAnswer}
+use Rattle.answers.proofs.Ends.{sends-nothing, sends-all, sends-along}
+use Rattle.reads.specs.Reads.{requestedBy}
+use Rattle.reads.proofs.Entry.{Requested}
 
 -- Two parts, one after another.
 pub one-after-another : (m E D : List ℕ) (e : ℕ) → length E ≡ e → e + length D ≤ length m → over (over m 0 E) e D ≡ over m 0 (E ++ D)
@@ -52,39 +45,41 @@ one-after-another m E D e le h =
     ap (λ (x : List ℕ). over x 0 (E ++ D)) (split ∙ sym (append-assoc A B R)) ∙ over-at [] (A ++ B) R (E ++ D) 0 refl w in
     s2 ∙ sym (append-assoc E D R) ∙ sym s3
 
--- ---- how the entry ends
+-- ---- the answer to a read command
 
--- The ways out of the entry, from those of any command.
-pub leaves-ends : (f : Table → Said) (l : Lent) (r : Answered) (l′ : Lent) (clock table answer : List ℕ) → Ends f l r l′
-    → clock ≡ l′ .clock → table ≡ l′ .table → answer ≡ l′ .answer → Leaves f l (withClock r clock) table answer
-leaves-ends f l r l′ clock table answer z ec et ea =
-    record {
-      answered = z .answers;
-      clock-left = ec ∙ ap (λ (x : Lent). x .clock) (z .leaves);
-      table-left = et ∙ ap (λ (x : Lent). x .table) (z .leaves);
-      answer-left = ea ∙ ap (λ (x : Lent). x .answer) (z .leaves);
-    }
+-- An address is missing.
+pub read-denied : (c : Command) (asdu out : List ℕ) (q : Option (List Point)) → q ≡ none → (r : Answered) (out′ : List ℕ)
+    → Sends (echoed c asdu true ∷ []) out r out′ → Sends (readAnswer c asdu q) out r out′
+unfolding readAnswer
+read-denied c asdu out q e r out′ s = sends-along _ _ out out′ r (sym (ap (readAnswer c asdu) e)) s
 
-module _ (f : Table → Said) (l : Lent) (w : wellFormed (l .table) ≡ true) where
-  -- An answer X that was written whole or not at all, the table and the clock changed only if it was.
-  pub leaves-sent : (X : List ℕ) → f (tableOf (l .table)) .outcome ≡ Done → f (tableOf (l .table)) .told ≡ [] → f (tableOf (l .table)) .answer ≡ X
-      → (r : Answered) (clock table answer : List ℕ) → r ≡ sent X (l .answer) → answer ≡ left X (l .answer)
-      → clock ≡ pick (fits X (l .answer)) (f (tableOf (l .table)) .clock) (l .clock)
-      → table ≡ pick (fits X (l .answer)) (holding (l .table) (tableOf (l .table)) (f (tableOf (l .table)) .after)) (l .table)
-      → Leaves f l (withClock r clock) table answer
-  unfolding sent left
-  leaves-sent X d q x r clock table answer er ea ec et = by-test (fits X (l .answer)) refl er ea ec et
-    where
-      by-test : (b : Bool) → fits X (l .answer) ≡ b → r ≡ pick b (given (length X)) (nothing AnswerShort) → answer ≡ pick b (fronted X (l .answer)) (l .answer)
-          → clock ≡ pick b (f (tableOf (l .table)) .clock) (l .clock)
-          → table ≡ pick b (holding (l .table) (tableOf (l .table)) (f (tableOf (l .table)) .after)) (l .table) → Leaves f l (withClock r clock) table answer
-      by-test true e er′ ea′ ec′ et′ =
-          let h : length X ≤ length (l .answer) = leb-true _ _ e in
-          let z = ends-done f l w (length X) _ d q (ap length (sym x)) h refl in
-          let y = leaves-ends f l _ _ clock table answer z ec′ et′ (ea′ ∙ ap (λ (v : List ℕ). fronted v (l .answer)) (sym x)) in
-          record { answered = er′ ∙ y .answered; clock-left = y .clock-left; table-left = y .table-left; answer-left = y .answer-left }
-      by-test false e er′ ea′ ec′ et′ =
-          let h : length (l .answer) < length X = leb-false _ _ e in
-          let z = ends-short f l w d q (rw x h) in
-          let y = leaves-ends f l _ _ clock table answer z ec′ et′ ea′ in
-          record { answered = er′ ∙ y .answered; clock-left = y .clock-left; table-left = y .table-left; answer-left = y .answer-left }
+-- Every address is known.
+module _ (m : List ℕ) (first h : ℕ) (c : Command) (asdu out : List ℕ) (octets : ℕ) (z : Requested m first h c asdu octets)
+    (whole : length asdu ≡ objectAt (c .element) (c .count)) where
+  wire-read : wire (readAnswer c asdu (pointsRead c asdu (tableOf m))) ≡ asduOctets (echoed c asdu false) ++ wire (map (requestedAsdu (c .ca)) (z .points))
+  unfolding readAnswer wire joined
+  wire-read = ap (λ (q : Option (List Point)). wire (readAnswer c asdu q)) (z .is-asked)
+
+  size-read : size (readAnswer c asdu (pointsRead c asdu (tableOf m))) ≡ length asdu + octets
+  size-read =
+      let e = length-echo c asdu 7 false whole in
+      let k = z .is-octets in
+      ap length wire-read ∙ simp length-append (omega arith)
+
+  -- There is no room.
+  pub read-short : length out < length asdu + octets → Sends (readAnswer c asdu (pointsRead c asdu (tableOf m))) out (nothing AnswerShort) out
+  read-short h′ = let l = size-read in sends-nothing _ out (omega arith)
+
+  -- The echo, then the requested ASDUs.
+  pub read-written : length asdu + octets ≤ length out → (out₁ out₂ : List ℕ) (r : ℕ) → out₁ ≡ over out 0 (asduOctets (echoed c asdu false))
+      → PutsAt (length asdu) (wire (requestedBy m first h c asdu)) out₁ r out₂ → Sends (readAnswer c asdu (pointsRead c asdu (tableOf m))) out (given r) out₂
+  read-written fit out₁ out₂ r e₁ e₂ =
+      let E : List ℕ = asduOctets (echoed c asdu false) in
+      let D : List ℕ = wire (map (requestedAsdu (c .ca)) (z .points)) in
+      let l = size-read in
+      let k = z .is-octets in
+      let d = ap wire (z .is-data) in
+      let n = e₂ .0 ∙ ap (λ (x : List ℕ). length asdu + length x) d in
+      let o = e₂ .1 ∙ (λ j. over (e₁ j) (length asdu) (d j)) in
+      sends-all _ out r out₂ (omega arith) (omega arith)
+      (o ∙ one-after-another out E D (length asdu) (length-echo c asdu 7 false whole) (omega arith) ∙ ap (over out 0) (sym wire-read))

@@ -1,30 +1,28 @@
--- What the entry for system commands is lent, what it gives back and what it leaves.
-use mathlib.Core.Path.{_≡_}
+-- The memories that are lent to the entry for system commands, and what its code makes of a command.
 use Prim.Native.Nat.{ℕ}
 use mathlib.Core.List.{List, []}
 use mathlib.Core.Bool.{Bool, _||_, not}
 use lib.Dec.{eqb}
+use denote.Triple.Both.{Both}
+use denote.Ref.{RefT, now}
 use Rattle.limits.specs.Test.{_&_}
-use Rattle.table.specs.Table.{Table}
 use Rattle.asdu.specs.declared.command.Command.{Command}
 use Rattle.answers.specs.declared.Answered.{Answered}
-use Rattle.answers.specs.Said.{Said, Lent, answeredOn, lentAfter}
+use Rattle.answers.specs.Said.{Lent, lent}
 use Rattle.answers.specs.System.{interrogationType, causeTaken, qualifierOf}
 use Rattle.system_command_handler.specs.declared.SystemAnswered.{SystemAnswered}
 
--- The table, the clock of eight octets and the answer memory; no spontaneous memory.
-abbrev pub lentTo : List ℕ → List ℕ → List ℕ → Lent
-lentTo table clock answer = record { table = table; clock = clock; answer = answer; spontaneous = [] }
+-- Table and answer memory as a call finds them, with the clock that it is handed; it has no spontaneous memory.
+abbrev pub atEntry : Both (RefT (List ℕ)) (RefT (List ℕ)) → List ℕ → Both (RefT (List ℕ)) (RefT (List ℕ)) → Lent
+atEntry table clock answer = lent (now (table .entry)) clock (now (answer .entry)) []
 
--- What comes back, the clock, the table and the answer memory are those of what the command says.
-pub record Leaves (f : Table → Said) (l : Lent) (r : SystemAnswered) (table answer : List ℕ) : Type 0 where
-  pub answered : r .answered ≡ answeredOn f l
-  pub clock-left : r .clock ≡ lentAfter f l .clock
-  pub table-left : table ≡ lentAfter f l .table
-  pub answer-left : answer ≡ lentAfter f l .answer
+-- And as it leaves them, with the clock that it gives back.
+abbrev pub atExit : Both (RefT (List ℕ)) (RefT (List ℕ)) → List ℕ → Both (RefT (List ℕ)) (RefT (List ℕ)) → Lent
+atExit table clock answer = lent (now (table .exit)) clock (now (answer .exit)) []
 
 -- ---- as the code reads
 
+-- an answer with the clock that goes back
 abbrev pub withClock : Answered → List ℕ → SystemAnswered
 withClock r clock = record { answered = r; clock = clock }
 

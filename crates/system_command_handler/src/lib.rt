@@ -1,5 +1,5 @@
-// The entry for system commands: interrogation, counters with reset, read, clock, tests, reset process. From `system_command_handler.rs`.
-// It tests everything itself: any octets may be lent as the table, the command and the answer memory.
+// The entry for system commands: interrogation, counters with reset, read, clock, tests, reset process. From `system_command_handler.rs` and
+// `handle_ingress_asdu` of `actor.rs`. It tests everything itself: any octets may be lent as the table, the command and the answer memory.
 use answers::Answered;
 use asdu::command::Command;
 use asdu::command::Entry;
@@ -12,27 +12,26 @@ use asdu::types_id::C_CS_NA_1;
 use asdu::types_id::C_IC_NA_1;
 use asdu::types_id::C_RD_NA_1;
 use limits::outcome::Outcome;
-use limits::size::STANDARD_LIMIT;
+use limits::size::ADDRESS_OCTETS;
+use limits::size::HEADER_OCTETS;
 use reads::Asked;
 use seats::Seat;
 ghost use mathlib.Core.Path.{_≡_};
 ghost use mathlib.Core.Bool.{true, false};
-ghost use Prim.Native.Nat.{_+_, _*_, _≤_, _<_};
+ghost use mathlib.Core.List.{[], _∷_};
+ghost use Prim.Native.Nat.{_+_, _≤_, _<_};
 ghost use lib.ListN.{length};
 ghost use Rattle.limits.specs.Test.{pick};
-ghost use Rattle.limits.specs.Size.{standardLimit};
-ghost use Rattle.octets.specs.Over.{over};
+ghost use Rattle.limits.specs.Size.{countLimit};
+ghost use Rattle.limits.specs.Outcome.{isDone};
 ghost use Rattle.table.specs.Memory.{wellFormed, tableOf};
-ghost use Rattle.registry.specs.Effect.{holding};
-ghost use Rattle.asdu.specs.Command.{readAs, objectAt};
+ghost use Rattle.table.specs.Settings.{limitOf};
+ghost use Rattle.asdu.specs.Command.{readAs, objectAt, firstElement};
 ghost use Rattle.asdu.specs.declared.command.Entry.the-variants.{SystemCommands};
 ghost use Rattle.asdu.specs.declared.command.Reading.the-variants.{Parsed};
-ghost use Rattle.answers.specs.Said.{fits, answeredOn, lentAfter};
-ghost use Rattle.answers.specs.System.{qualifierOf, chosen, choiceOf, counterAnswer, afterCounters, readAnswer, clockFrom, causeTaken, isSilent, commandSaid, systemSaid};
-ghost use Rattle.reads.specs.Reads.{requestedAt};
-ghost use Rattle.reads.proofs.Entry.{askedOfStation};
-ghost use Rattle.confirming.specs.Sending.{nothing, sent, left};
-ghost use Rattle.system_command_handler.specs.Handler.{lentTo, Leaves, isSkipped, withClock};
+ghost use Rattle.answers.specs.Said.{asItIs, Leaves, Sends};
+ghost use Rattle.answers.specs.System.{echoed, pointsRead, readAnswer, clockFrom, causeTaken, commandSaid, systemSaid};
+ghost use Rattle.system_command_handler.specs.Handler.{atEntry, atExit, isSkipped, withClock};
 
 // What the entry gives back: the number and octets, and the last master clock, seven octets and the known flag.
 pub struct SystemAnswered {
@@ -40,102 +39,54 @@ pub struct SystemAnswered {
     pub clock: [u8; 8],
 }
 
-// A number other than 0: nothing is written.
-fn nothing(outcome: Outcome) -> Answered
-    ensures { λ r. ⌜ r ≡ nothing outcome ⌝ }
-{
-    Answered {
-        outcome: outcome,
-        octets: 0,
-        spontaneous: 0,
-    }
-}
-
-// ---- counters
-
-// The answer first, which shows the values before the reset; then the reset of what was reported, if the answer was given.
-fn counters(table: &mut [u8], answer: &mut [u8], command: Command, asdu: &[u8]) -> Answered
-    requires { ⌜ (wellFormed (now table) ≡ true) × (command .element ≤ 12) × (9 + command .element ≤ length (now asdu)) × (10 ≤ length (now asdu)) ⌝ }
-    ensures { λ r. ⌜ (r ≡ sent (counterAnswer standardLimit command (now (asdu .entry)) (chosen (choiceOf (qualifierOf (now (asdu .entry))))) (tableOf (now (table .entry)) .stations)) (now (answer .entry))) × (now (answer .exit) ≡ left (counterAnswer standardLimit command (now (asdu .entry)) (chosen (choiceOf (qualifierOf (now (asdu .entry))))) (tableOf (now (table .entry)) .stations)) (now (answer .entry))) × (now (table .exit) ≡ pick (fits (counterAnswer standardLimit command (now (asdu .entry)) (chosen (choiceOf (qualifierOf (now (asdu .entry))))) (tableOf (now (table .entry)) .stations)) (now (answer .entry))) (holding (now (table .entry)) (tableOf (now (table .entry))) (afterCounters (tableOf (now (table .entry))) (command .ca) (qualifierOf (now (asdu .entry))) (chosen (choiceOf (qualifierOf (now (asdu .entry))))))) (now (table .entry))) ⌝ }
-{
-    let answered = interrogations::interrogate_counters(answer, table, command, asdu);
-    let outcome = answered.outcome;
-    if !outcome.is_done() {
-        return answered;
-    }
-    interrogations::reset_counters(table, command, asdu);
-    answered
-}
-
 // ---- read
 
-// Writes the requested ASDUs into what remains of the answer memory from `at`.
-fn put_requested(
-    answer: &mut [u8],
-    at: usize,
-    table: &[u8],
-    first: usize,
-    h: usize,
-    command: Command,
-    asdu: &[u8],
-)
-    requires { ⌜ (first + 48 * h ≤ length (now table)) × (6 + 3 * command .count ≤ length (now asdu)) × (at + length (requestedAt (now table) first h (command .ca) (now asdu) 6 (command .count)) ≤ length (now answer)) ⌝ }
-    ensures { λ _. ⌜ now (answer .exit) ≡ over (now (answer .entry)) at (requestedAt (now (table .entry)) first h (command .ca) (now (asdu .entry)) 6 (command .count)) ⌝ }
-{
-    reads::put_requested(
-        &mut answer[at..],
-        table,
-        first,
-        h,
-        asdu,
-        command.count as usize,
-        command.ca,
-    );
-}
-
 // The echo of all objects, negative where an address is missing; else one ASDU for each object, in the command's order.
-fn read(answer: &mut [u8], table: &[u8], command: Command, asdu: &[u8]) -> Answered
-    requires { ⌜ (wellFormed (now table) ≡ true) × (0 < command .count) × (command .count < 128) × (length (now asdu) ≡ 6 + 3 * command .count) ⌝ }
-    ensures { λ r. ⌜ (r ≡ sent (readAnswer command (now (asdu .entry)) (askedOfStation (now (table .entry)) (command .ca) (now (asdu .entry)) (command .count))) (now (answer .entry))) × (now (answer .exit) ≡ left (readAnswer command (now (asdu .entry)) (askedOfStation (now (table .entry)) (command .ca) (now (asdu .entry)) (command .count))) (now (answer .entry))) ⌝ }
+fn handle_read(answer: &mut [u8], table: &[u8], command: Command, asdu: &[u8]) -> Answered
+    requires { ⌜ (wellFormed (now table) ≡ true) × (0 < command .count) × (command .count ≤ countLimit) × (command .element ≡ 0) × (length (now asdu) ≡ objectAt 0 (command .count)) ⌝ }
+    ensures { λ r. ⌜ Sends (readAnswer command (now (asdu .entry)) (pointsRead command (now (asdu .entry)) (tableOf (now (table .entry))))) (now (answer .entry)) r (now (answer .exit)) ⌝ }
 {
     let Seat::Here(_, first, h) = seats::seat_at(table, command.ca as usize) else {
-        return confirming::echo(answer, command, asdu, cot::ACTIVATION_CONFIRMATION, true);
+        return confirming::echo(answer, command, asdu, true);
     };
-    let Asked::Known(octets) = reads::read_octets(table, first, h, asdu, command.count as usize)
-    else {
-        return confirming::echo(answer, command, asdu, cot::ACTIVATION_CONFIRMATION, true);
+    let Asked::Known(octets) = reads::read_octets(table, first, h, command, asdu) else {
+        return confirming::echo(answer, command, asdu, true);
     };
     let before = asdu.len();
     if answer.len() < before {
-        return nothing(Outcome::AnswerShort);
+        return Answered::nothing(Outcome::AnswerShort);
     }
     if answer.len() - before < octets {
-        return nothing(Outcome::AnswerShort);
+        return Answered::nothing(Outcome::AnswerShort);
     }
     confirmation::put_echo(answer, command, asdu, cot::ACTIVATION_CONFIRMATION, false);
-    put_requested(answer, before, table, first, h, command, asdu);
-    Answered {
-        outcome: Outcome::Done,
-        octets: before + octets,
-        spontaneous: 0,
-    }
+    Answered::given(reads::put_requested(
+        answer,
+        before,
+        table,
+        first,
+        h,
+        command,
+        asdu,
+    ))
 }
 
 // ---- the clock
 
 // The first object's time, and that it is known.
 fn clock_of(asdu: &[u8]) -> [u8; 8]
-    requires { ⌜ 16 ≤ length (now asdu) ⌝ }
+    requires { ⌜ firstElement + 7 ≤ length (now asdu) ⌝ }
     ensures { λ r. ⌜ r ≡ clockFrom (now (asdu .entry)) ⌝ }
 {
+    let at = HEADER_OCTETS + ADDRESS_OCTETS;
     [
-        asdu[9],
-        asdu[10],
-        asdu[11],
-        asdu[12],
-        asdu[13],
-        asdu[14],
-        asdu[15],
+        asdu[at],
+        asdu[at + 1],
+        asdu[at + 2],
+        asdu[at + 3],
+        asdu[at + 4],
+        asdu[at + 5],
+        asdu[at + 6],
         1,
     ]
 }
@@ -148,6 +99,25 @@ fn with_clock(answered: Answered, clock: [u8; 8]) -> SystemAnswered
         answered: answered,
         clock: clock,
     }
+}
+
+// The echo of all objects; the clock is stored if the echo was given.
+fn handle_clock_sync(
+    answer: &mut [u8],
+    clock: [u8; 8],
+    command: Command,
+    asdu: &[u8],
+) -> SystemAnswered
+    requires { ⌜ (length (now asdu) ≡ objectAt (command .element) (command .count)) × (firstElement + 7 ≤ length (now asdu)) ⌝ }
+    ensures { λ r. ⌜ Sends (echoed command (now (asdu .entry)) false ∷ []) (now (answer .entry)) (r .answered) (now (answer .exit)) ⌝ }
+    ensures { λ r. ⌜ r .clock ≡ pick (isDone (r .answered .outcome)) (clockFrom (now (asdu .entry))) clock ⌝ }
+{
+    let answered = confirming::echo(answer, command, asdu, false);
+    let outcome = answered.outcome;
+    if !outcome.is_done() {
+        return with_clock(answered, clock);
+    }
+    with_clock(answered, clock_of(asdu))
 }
 
 // ---- which commands are taken
@@ -175,67 +145,61 @@ fn is_skipped(command: Command, asdu: &[u8]) -> bool
     if command.kind != C_IC_NA_1 {
         return false;
     }
-    if asdu.len() < 10 {
+    if asdu.len() <= HEADER_OCTETS + ADDRESS_OCTETS {
         return true;
     }
-    asdu[9] == 0
+    interrogations::qualifier_of(asdu) == 0
 }
 
 // ---- the entry
 
-// What a command that is taken says, by its type.
-fn answer_command(
+// What a command that is taken says, by its type: `handle_test` and `handle_reset_process` are the echo of all objects.
+fn dispatch_rtu_system_handler(
     table: &mut [u8],
     clock: [u8; 8],
     asdu: &[u8],
     answer: &mut [u8],
     command: Command,
 ) -> SystemAnswered
-    requires { ⌜ (wellFormed (now table) ≡ true) × (readAs standardLimit SystemCommands (now asdu) ≡ Parsed command) × (0 < command .count) ⌝ }
-    ensures { λ r. ⌜ Leaves (commandSaid standardLimit clock (now (asdu .entry)) command) (lentTo (now (table .entry)) clock (now (answer .entry))) r (now (table .exit)) (now (answer .exit)) ⌝ }
+    requires { ⌜ (wellFormed (now table) ≡ true) × (readAs (limitOf (tableOf (now table))) SystemCommands (now asdu) ≡ Parsed command) × (0 < command .count) ⌝ }
+    ensures { λ r. ⌜ Leaves asItIs (commandSaid clock (now (asdu .entry)) command) (atEntry table clock answer) (r .answered) (atExit table (r .clock) answer) ⌝ }
 {
     let kind = command.kind;
     if kind == C_IC_NA_1 {
-        return with_clock(
-            interrogations::interrogate(answer, table, command, asdu),
-            clock,
-        );
+        let answered = interrogations::handle_interrogation(answer, table, command, asdu);
+        return with_clock(answered, clock);
     }
     if kind == C_CI_NA_1 {
-        return with_clock(counters(table, answer, command, asdu), clock);
+        let answered = interrogations::handle_counter_interrogation(table, answer, command, asdu);
+        return with_clock(answered, clock);
     }
     if kind == C_RD_NA_1 {
-        return with_clock(read(answer, table, command, asdu), clock);
+        return with_clock(handle_read(answer, table, command, asdu), clock);
     }
-    let answered = confirming::echo(answer, command, asdu, cot::ACTIVATION_CONFIRMATION, false);
-    if kind != C_CS_NA_1 {
-        return with_clock(answered, clock);
+    if kind == C_CS_NA_1 {
+        return handle_clock_sync(answer, clock, command, asdu);
     }
-    let outcome = answered.outcome;
-    if !outcome.is_done() {
-        return with_clock(answered, clock);
-    }
-    with_clock(answered, clock_of(asdu))
+    with_clock(confirming::echo(answer, command, asdu, false), clock)
 }
 
 // A command that was read: silent without a first object, silent if it is passed over, else its answer.
-fn handle_command(
+fn handle_ingress_asdu(
     table: &mut [u8],
     clock: [u8; 8],
     asdu: &[u8],
     answer: &mut [u8],
     command: Command,
 ) -> SystemAnswered
-    requires { ⌜ (wellFormed (now table) ≡ true) × (readAs standardLimit SystemCommands (now asdu) ≡ Parsed command) ⌝ }
-    ensures { λ r. ⌜ Leaves (systemSaid standardLimit clock (now (asdu .entry))) (lentTo (now (table .entry)) clock (now (answer .entry))) r (now (table .exit)) (now (answer .exit)) ⌝ }
+    requires { ⌜ (wellFormed (now table) ≡ true) × (readAs (limitOf (tableOf (now table))) SystemCommands (now asdu) ≡ Parsed command) ⌝ }
+    ensures { λ r. ⌜ Leaves asItIs (systemSaid clock (now (asdu .entry))) (atEntry table clock answer) (r .answered) (atExit table (r .clock) answer) ⌝ }
 {
     let FirstObject::Object(_, _) = asdu::command::first_object(command, asdu) else {
-        return with_clock(nothing(Outcome::Silent), clock);
+        return with_clock(Answered::nothing(Outcome::Silent), clock);
     };
     if is_skipped(command, asdu) {
-        return with_clock(nothing(Outcome::Silent), clock);
+        return with_clock(Answered::nothing(Outcome::Silent), clock);
     }
-    answer_command(table, clock, asdu, answer, command)
+    dispatch_rtu_system_handler(table, clock, asdu, answer, command)
 }
 
 // The entry for system commands: 3; then 2, 1 and 2 of the reading; then the silent rules; then the answer, or 4.
@@ -245,15 +209,15 @@ pub fn system_command(
     asdu: &[u8],
     answer: &mut [u8],
 ) -> SystemAnswered
-    ensures { λ r. ⌜ Leaves (systemSaid standardLimit clock (now (asdu .entry))) (lentTo (now (table .entry)) clock (now (answer .entry))) r (now (table .exit)) (now (answer .exit)) ⌝ }
+    ensures { λ r. ⌜ Leaves asItIs (systemSaid clock (now (asdu .entry))) (atEntry table clock answer) (r .answered) (atExit table (r .clock) answer) ⌝ }
 {
     if !wellformed::well_formed(table) {
-        return with_clock(nothing(Outcome::TableNotWellFormed), clock);
+        return with_clock(Answered::nothing(Outcome::TableNotWellFormed), clock);
     }
-    match asdu::command::parse(asdu, Entry::SystemCommands, STANDARD_LIMIT) {
-        Reading::LengthOutOfRange => with_clock(nothing(Outcome::Malformed), clock),
-        Reading::TypeNotServed => with_clock(nothing(Outcome::Silent), clock),
-        Reading::ObjectsNotWhole => with_clock(nothing(Outcome::Malformed), clock),
-        Reading::Parsed(command) => handle_command(table, clock, asdu, answer, command),
-    }
+    let limit = settings::limit_of(table);
+    let reading = asdu::command::parse(asdu, Entry::SystemCommands, limit);
+    let Reading::Parsed(command) = reading else {
+        return with_clock(Answered::nothing(reading.outcome()), clock);
+    };
+    handle_ingress_asdu(table, clock, asdu, answer, command)
 }

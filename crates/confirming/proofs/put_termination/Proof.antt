@@ -2,6 +2,7 @@
 use mathlib.Core.Bool.{false}
 use denote.Ref.{now}
 use Rattle.octets.proofs.Laws.{lent-over}
+use Rattle.asdu.specs.Header.{asduOctets}
 use Rattle.asdu.proofs.Lengths.{length-confirmation}
 use Rattle.answers.specs.System.{terminated}
 use borrow.Author.Needs.{needs}
@@ -33,7 +34,7 @@ returns c =
     let start = c .before .before .before .before .before .before in
     let a = start .args in
     let l = length-confirmation (a .command) (now (a .asdu)) 10 false (start .pre .0 .1) in
-    rw (c .before .before .put-confirmation .ensures .1) (lent-over (now (a .answer)) (terminated (a .command) (now (a .asdu))) (a .at) (omega arith))
+    rw (c .before .before .put-confirmation .ensures .1) (lent-over (now (a .answer)) (asduOctets (terminated (a .command) (now (a .asdu)))) (a .at) (omega arith))
 
 pub put-termination-spec : {M : Type 1} → statement M
 put-termination-spec =

@@ -89,7 +89,7 @@ put-data-requires c κs =
     let few = z .few in
     let l = c .before .before .before .limit-of .ensures in
     let p = start .pre in
-    (omega arith, omega arith, (omega arith, omega arith), p .1, (l .1, l .2), p .2)
+    (omega arith, omega arith, (omega arith, omega arith), p .1, ((l .1, l .2), p .2))
 
 enum-known-octets : tie.Need-enum-known-octets
 enum-known-octets c = search needs

@@ -5,6 +5,7 @@ use Prim.Native.Nat.{_+_, _*_, _≤_}
 use denote.Ref.{now}
 use lib.ListN.{length}
 use Rattle.limits.specs.Size.{addressOctets}
+use Rattle.asdu.specs.Header.{wire}
 use Rattle.octets.proofs.Log.{Log, log-start}
 use Rattle.reads.specs.Reads.{requestedAt, requestedBy}
 use Rattle.reads.proofs.Writing.{next-fits, next-in, all-in}
@@ -13,7 +14,7 @@ use Rattle.reads.proofs.put_requested.Tie as tie
 
 abbrev Inv-loop : tie.InvT-loop
 Inv-loop out₀ from m first h command asdu o₀ at₀ left₀ out o at left =
-    Log out₀ from (requestedBy m first h command asdu) out o (requestedAt m first h (command .ca) asdu at left) × (at + addressOctets * left ≤ length asdu)
+    Log out₀ from (wire (requestedBy m first h command asdu)) out o (wire (requestedAt m first h (command .ca) asdu at left)) × (at + addressOctets * left ≤ length asdu)
 
 abbrev μ-loop : tie.MeasureT-loop
 μ-loop out₀ from m first h command asdu o₀ at₀ left₀ out o at left = left
@@ -21,7 +22,7 @@ abbrev μ-loop : tie.MeasureT-loop
 loop-holds : tie.Need-loop-holds Inv-loop μ-loop
 loop-holds c =
     let a = c .before .before .before .args in
-    (log-start (now (a .out)) (a .from) (requestedBy (now (a .m)) (a .first) (a .h) (a .command) (now (a .asdu))) (omega arith), omega arith)
+    (log-start (now (a .out)) (a .from) (wire (requestedBy (now (a .m)) (a .first) (a .h) (a .command) (now (a .asdu)))) (omega arith), omega arith)
 
 three-at-requires : tie.Need-three-at-requires Inv-loop μ-loop
 three-at-requires c κs = search needs
@@ -50,10 +51,9 @@ loop-again c =
     let start = c .before .before .before .before .before .before .before .before .before .before in
     let a = start .args in
     let l = c .before .before .before .before .before .before .loop in
-    let i = c .before .before .before .before .three-at .ensures .0 in
-    let p = c .before .before .put-found .ensures in (
+    let i = c .before .before .before .before .three-at .ensures .0 in (
       next-in (now (a .m)) (a .first) (a .h) (a .command .ca) (now (a .asdu)) (now (a .out)) _ (l .out) (a .from) (l .o) (l .at) (l .left) (l .inv .0) (start .pre .1) (omega arith)
-          _ _ _ i (p .0) (p .1),
+      _ _ _ i (c .before .before .put-found .ensures),
       omega arith,
     )
 

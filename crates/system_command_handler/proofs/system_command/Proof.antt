@@ -1,60 +1,37 @@
 -- No table, a reading that is no command, or the command. Assumes nothing.
-use mathlib.Core.Path.{_≡_, refl, sym, ap, ap₂, _∙_}
+use mathlib.Core.Path.{_≡_, sym, ap, _∙_}
 use mathlib.Core.Bool.{true, false}
-use mathlib.Core.List.{List, _++_}
-use mathlib.Core.Option.{Option, some, none}
-use Prim.Native.Nat.{ℕ, _+_, _*_, _-_, _≤_, _<_}
-use lib.ListN.{length, getD, length-append}
+use mathlib.Core.List.{[]}
+use Prim.Native.Nat.{ℕ}
 use denote.Ref.{now}
 use borrow.Author.Tests.{not-true, not-false}
-use Rattle.limits.specs.Test.{pick}
-use Rattle.limits.specs.Size.{standardLimit}
-use Rattle.limits.specs.Outcome.{isDone}
-use Rattle.octets.specs.Number.{two, Octets}
-use Rattle.octets.specs.Over.{over}
-use Rattle.octets.proofs.Laws.{lent-over}
-use Rattle.model.specs.declared.Point.{Point}
-use Rattle.table.specs.Memory.{wellFormed, tableOf}
-use Rattle.table.proofs.Parse.{passed}
-use Rattle.seats.specs.Seats.{seatAt}
-use Rattle.seats.specs.declared.Seat.the-variants.{Here, NotPlanned}
-use Rattle.registry.specs.Effect.{holding}
-use Rattle.asdu.specs.Confirmation.{echo}
-use Rattle.asdu.proofs.Lengths.{length-echo}
-use Rattle.report.specs.Packing.{joined}
-use Rattle.report.specs.Single.{requestedAsdu}
-use Rattle.answers.specs.declared.Answered.{Answered}
-use Rattle.answers.specs.Said.{fits}
-use Rattle.answers.specs.System.{counterAnswer, chosen, choiceOf, qualifierOf, afterCounters, readAnswer}
-use Rattle.confirming.specs.Sending.{sent, left, given, nothing}
-use Rattle.confirming.proofs.Laws.{short-sent, full-sent}
-use Rattle.reads.specs.Reads.{requestedAt}
-use Rattle.reads.proofs.Entry.{askedOfStation, read-bounds, requested-law, missing-address-law, unplanned-read-law}
-use Rattle.system_command_handler.proofs.Laws.{done-fits, one-after-another}
-use mathlib.Core.Bool.{Bool, _||_, not}
-use mathlib.Core.List.{[], _∷_}
-use lib.Dec.{eqb}
-use lib.ListN.{take, drop, List·getD-eq-default}
-use borrow.Author.Tests.{eq-eqb, ne-eqb}
-use Rattle.limits.specs.Test.{_&_}
-use Rattle.limits.specs.declared.outcome.Outcome.the-variants.{Silent, Malformed, TableNotWellFormed}
 use Rattle.table.specs.Table.{Table}
-use Rattle.table.proofs.Points.{gets, gets-drop}
-use Rattle.asdu.specs.declared.command.Entry.the-variants.{SystemCommands}
-use Rattle.asdu.specs.declared.command.Reading.the-variants.{LengthOutOfRange, TypeNotServed, ObjectsNotWhole, Parsed}
+use Rattle.table.specs.Memory.{wellFormed, tableOf}
+use Rattle.table.specs.Settings.{limitOf}
 use Rattle.asdu.specs.Command.{readAs}
-use Rattle.asdu.proofs.Reading.{no-first, first-is}
-use Rattle.answers.specs.Said.{Said, Lent}
-use Rattle.answers.specs.System.{causeTaken, clockFrom, interrogationAnswer, interrogated, commandSaid, systemSaid, isSilent}
-use Rattle.answers.proofs.Ends.{ends-no-table}
-use Rattle.system_command_handler.specs.Handler.{Leaves, lentTo, isSkipped, withClock}
-use Rattle.system_command_handler.proofs.Laws.{leaves-ends, leaves-sent}
-use Rattle.system_command_handler.proofs.Ways.{sizes-of, element-is, one-octet, said-interrogation, said-counters, said-read, said-clock, said-echo, leaves-refused, leaves-says, same-clock, silent-none, silent-some, system-silent, system-taken, system-refused, leaves-along}
-use Rattle.system_command_handler.proofs.Ways.{sizes-of, element-is, one-octet, said-interrogation, said-counters, said-read, said-clock, said-echo, leaves-refused, leaves-says, same-clock, silent-none, silent-some, system-silent, system-taken, system-refused}
+use Rattle.asdu.specs.declared.command.Entry.the-variants.{SystemCommands}
+use Rattle.answers.specs.Said.{Said, Lent, lent, nothing}
+use Rattle.answers.specs.System.{systemSaid}
+use Rattle.answers.proofs.Ends.{ends-no-table, ends-refused}
+use Rattle.system_command_handler.proofs.Ways.{unread-says}
 use borrow.Author.Needs.{needs}
-use native.Mathlib.Omega.{arith}
 use Rattle.system_command_handler.proofs.system_command.Statement.{statement}
 use Rattle.system_command_handler.proofs.system_command.Tie as tie
+
+-- what is lent, and what the command says
+abbrev lentIn : tie.Start → Lent
+lentIn s = lent (now (s .args .table)) (s .args .clock) (now (s .args .answer)) []
+
+abbrev saidIn : tie.Start → Table → Said
+saidIn s = systemSaid (s .args .clock) (now (s .args .asdu))
+
+-- the table is there
+there : (c : tie.Else1) → wellFormed (now (c .before .before .before .before .before .before .args .table)) ≡ true
+there c = sym (c .before .well-formed .ensures) ∙ not-false _ (c .if1 .left)
+
+-- what was read is what the table's limit allows
+is-read : (c : tie.After-parse) → c .parse .result ≡ readAs (limitOf (tableOf (now (c .before .before .before .before .before .before .before .before .before .args .table)))) SystemCommands (now (c .before .before .before .before .before .before .before .before .before .args .asdu))
+is-read c = c .parse .ensures ∙ ap (λ (n : ℕ). readAs n SystemCommands (now (c .before .before .before .before .before .before .before .before .before .args .asdu))) (c .before .limit-of .ensures .0)
 
 well-formed-requires : tie.Need-well-formed-requires
 well-formed-requires c κs = search needs
@@ -70,21 +47,21 @@ same-length c = search needs
 
 returns : tie.Need-returns
 returns c =
-    let a = c .before .before .before .before .before .before .before .before .args in
-    let t = now (a .table) in
-    let m = now (a .asdu) in
-    let out = now (a .answer) in
-    let k = a .clock in
-    let w : wellFormed t ≡ false = sym (c .before .before .before .well-formed .ensures) ∙ not-true _ (c .before .before .if1 .taken) in
-    let L = lentTo t k out in
-    let f = systemSaid standardLimit k m in
-    rw (c .with-clock .ensures, c .before .nothing .ensures) (leaves-ends f L _ L k t out (ends-no-table f L w) refl refl refl)
+    let start = c .before .before .before .before .before .before .before .before in
+    let w : wellFormed (now (start .args .table)) ≡ false = sym (c .before .before .before .well-formed .ensures) ∙ not-true _ (c .before .before .if1 .taken) in
+    rw (c .with-clock .ensures, c .before .nothing .ensures) (ends-no-table (saidIn start) (lentIn start) w)
+
+limit-of-requires : tie.Need-limit-of-requires
+limit-of-requires c κs = there (c .before)
 
 parse-requires : tie.Need-parse-requires
 parse-requires c κs = search needs
 
-enum-told : tie.Need-enum-told
-enum-told c = search needs
+enum-known-reading : tie.Need-enum-known-reading
+enum-known-reading c = search needs
+
+outcome-requires : tie.Need-outcome-requires
+outcome-requires c κs = search needs
 
 nothing-requires-2 : tie.Need-nothing-requires-2
 nothing-requires-2 c κs = search needs
@@ -92,90 +69,28 @@ nothing-requires-2 c κs = search needs
 with-clock-requires-2 : tie.Need-with-clock-requires-2
 with-clock-requires-2 c κs = search needs
 
-enum-told-2 : tie.Need-enum-told-2
-enum-told-2 c = search needs
-
-nothing-requires-3 : tie.Need-nothing-requires-3
-nothing-requires-3 c κs = search needs
-
-with-clock-requires-3 : tie.Need-with-clock-requires-3
-with-clock-requires-3 c κs = search needs
-
-enum-told-3 : tie.Need-enum-told-3
-enum-told-3 c = search needs
-
-nothing-requires-4 : tie.Need-nothing-requires-4
-nothing-requires-4 c κs = search needs
-
-with-clock-requires-4 : tie.Need-with-clock-requires-4
-with-clock-requires-4 c κs = search needs
-
-enum-known-command : tie.Need-enum-known-command
-enum-known-command c = search needs
-
-handle-command-requires : tie.Need-handle-command-requires
-handle-command-requires c κs =
-    let a = c .before .before .before .before .before .before .before .before .before .before .before .before .args in
-    let t = now (a .table) in
-    let m = now (a .asdu) in
-    let out = now (a .answer) in
-    let k = a .clock in
-    let w : wellFormed t ≡ true = sym (c .before .before .before .before .before .before .before .well-formed .ensures) ∙ not-false _ (c .before .before .before .before .before .before .if1 .left) in
-    (w, sym (c .before .before .before .before .before .parse .ensures) ∙ c .before .before .before .command .given .1)
-
 same-length-2 : tie.Need-same-length-2
 same-length-2 c = search needs
 
 returns-2 : tie.Need-returns-2
 returns-2 c =
-    let a = c .before .before .before .before .before .before .before .before .before .before .before .args in
-    let t = now (a .table) in
-    let m = now (a .asdu) in
-    let out = now (a .answer) in
-    let k = a .clock in
-    let w : wellFormed t ≡ true = sym (c .before .before .before .before .before .before .well-formed .ensures) ∙ not-false _ (c .before .before .before .before .before .if1 .left) in
-    let L = lentTo t k out in
-    let f = systemSaid standardLimit k m in
-    rw (c .with-clock2 .ensures, c .before .nothing2 .ensures) (leaves-refused f L w Malformed (system-refused k m (tableOf t) LengthOutOfRange (sym (c .before .before .before .before .parse .ensures) ∙ c .before .before .enum-told .given .1) refl) refl)
+    let start = c .before .before .before .before .before .before .before .before .before .before .before .before .before in
+    let a = start .args in
+    let t = tableOf (now (a .table)) in
+    let z = unread-says (a .clock) (now (a .asdu)) t _ (c .before .before .before .match .keys2) (is-read (c .before .before .before .before)) in
+    rw (c .with-clock2 .ensures, c .before .nothing2 .ensures, c .before .before .outcome .ensures) (ends-refused (saidIn start) (lentIn start) (there (c .before .before .before .before .before .before .before)) _ (z .0) (z .1))
+
+handle-ingress-asdu-requires : tie.Need-handle-ingress-asdu-requires
+handle-ingress-asdu-requires c κs = (there (c .before .before .before .before .before .before .before .before), sym (is-read (c .before .before .before .before .before)) ∙ c .before .before .before .reading .given .1)
 
 same-length-3 : tie.Need-same-length-3
 same-length-3 c = search needs
 
-returns-3 : tie.Need-returns-3
-returns-3 c =
-    let a = c .before .before .before .before .before .before .before .before .before .before .before .args in
-    let t = now (a .table) in
-    let m = now (a .asdu) in
-    let out = now (a .answer) in
-    let k = a .clock in
-    let w : wellFormed t ≡ true = sym (c .before .before .before .before .before .before .well-formed .ensures) ∙ not-false _ (c .before .before .before .before .before .if1 .left) in
-    let L = lentTo t k out in
-    let f = systemSaid standardLimit k m in
-    rw (c .with-clock3 .ensures, c .before .nothing3 .ensures) (leaves-refused f L w Silent (system-refused k m (tableOf t) TypeNotServed (sym (c .before .before .before .before .parse .ensures) ∙ c .before .before .enum-told2 .given .1) refl) refl)
-
 same-length-4 : tie.Need-same-length-4
 same-length-4 c = search needs
 
-returns-4 : tie.Need-returns-4
-returns-4 c =
-    let a = c .before .before .before .before .before .before .before .before .before .before .before .args in
-    let t = now (a .table) in
-    let m = now (a .asdu) in
-    let out = now (a .answer) in
-    let k = a .clock in
-    let w : wellFormed t ≡ true = sym (c .before .before .before .before .before .before .well-formed .ensures) ∙ not-false _ (c .before .before .before .before .before .if1 .left) in
-    let L = lentTo t k out in
-    let f = systemSaid standardLimit k m in
-    rw (c .with-clock4 .ensures, c .before .nothing4 .ensures) (leaves-refused f L w Malformed (system-refused k m (tableOf t) ObjectsNotWhole (sym (c .before .before .before .before .parse .ensures) ∙ c .before .before .enum-told3 .given .1) refl) refl)
-
-same-length-5 : tie.Need-same-length-5
-same-length-5 c = search needs
-
-same-length-6 : tie.Need-same-length-6
-same-length-6 c = search needs
-
-returns-5 : tie.Need-returns-5
-returns-5 c = search needs
+returns-3 : tie.Need-returns-3
+returns-3 c = search needs
 
 pub system-command-spec : {M : Type 1} → statement M
 system-command-spec =
@@ -186,24 +101,15 @@ system-command-spec =
     with-clock-requires
     same-length
     returns
+    limit-of-requires
     parse-requires
-    enum-told
+    enum-known-reading
+    outcome-requires
     nothing-requires-2
     with-clock-requires-2
-    enum-told-2
-    nothing-requires-3
-    with-clock-requires-3
-    enum-told-3
-    nothing-requires-4
-    with-clock-requires-4
-    enum-known-command
-    handle-command-requires
     same-length-2
     returns-2
+    handle-ingress-asdu-requires
     same-length-3
-    returns-3
     same-length-4
-    returns-4
-    same-length-5
-    same-length-6
-    returns-5)
+    returns-3)
