@@ -3,7 +3,6 @@
 use Prim.Native.Nat.{ℕ}
 use mathlib.Core.Path.{_≡_}
 use mathlib.Core.List.{List, []}
-use denote.Ref.{now}
 use Rattle.model.specs.Request.{requestAt}
 use Rattle.table.specs.Table.{Table}
 use Rattle.registry.specs.Effect.{Effect, replyOn, memoryOn}
@@ -14,7 +13,7 @@ use Rattle.answers.specs.Said.{Said, Lent, lent, answeredOn, lentAfter}
 use Rattle.answers.specs.System.{systemSaid}
 use Rattle.answers.specs.Process.{processSaid}
 use Rattle.answers.specs.Start.{startSaid}
-use Rattle.commands.specs.Entry.{Memory, proposalOf}
+use Rattle.commands.specs.Entry.{proposalOf}
 use Rattle.khuvelter.specs.Interface.{plainReply, placeReply, answerReply, isSet}
 use Rattle.khuvelter.specs.declared.Reply.{Reply}
 
@@ -53,13 +52,6 @@ pub data Call : Type 0 where
 -- A call that only changes the table is lent no other memory.
 abbrev pub tableAlone : List ℕ → Lent
 tableAlone m = lent m [] [] []
-
--- The three memories of a system command as it finds them, and as it leaves them.
-abbrev pub systemFound : Memory → Memory → Memory → Lent
-systemFound table clock answer = lent (now (table .entry)) (now (clock .entry)) (now (answer .entry)) []
-
-abbrev pub systemLeft : Memory → Memory → Memory → Lent
-systemLeft table clock answer = lent (now (table .exit)) (now (clock .exit)) (now (answer .exit)) []
 
 -- The memories with another in place of the table's.
 abbrev pub withMemory : List ℕ → Lent → Lent

@@ -7,9 +7,10 @@ ghost use mathlib.Core.Path.{_≡_};
 ghost use mathlib.Core.List.{[]};
 ghost use Rattle.registry.specs.Registry.{shareOn};
 ghost use Rattle.answers.specs.Said.{lent};
+ghost use Rattle.system_command_handler.specs.Handler.{atEntry, atExit};
 ghost use Rattle.commands.specs.Entry.{asFound, asLeft};
 ghost use Rattle.khuvelter.specs.Interface.{isSet, narrowed, plainReply, placeReply, answerReply, flatShare};
-ghost use Rattle.khuvelter.specs.Calls.{tableAlone, systemFound, systemLeft, Meets};
+ghost use Rattle.khuvelter.specs.Calls.{tableAlone, Meets};
 ghost use Rattle.khuvelter.specs.Calls.Change.{registerPoint, registerPoints, unregisterPoint, unregisterAll};
 ghost use Rattle.khuvelter.specs.Calls.Question.{connectionStarted, system, process};
 ghost use Rattle.khuvelter.specs.Calls.Call.{openTable, change, ask};
@@ -166,7 +167,7 @@ pub extern "C" fn khuvelter_system_command(
     asdu: &[u8],
     answer: &mut [u8],
 ) -> Reply
-    ensures { λ r. ⌜ Meets (ask (system (now (asdu .entry)))) (systemFound table clock answer) r (systemLeft table clock answer) ⌝ }
+    ensures { λ r. ⌜ Meets (ask (system (now (asdu .entry)))) (atEntry table (now (clock .entry)) answer) r (atExit table (now (clock .exit)) answer) ⌝ }
 {
     let said = system_command_handler::system_command(table, *clock, asdu, answer);
     let back = said.clock;
