@@ -3,3 +3,4 @@ pub mod Values
 pub mod Quiet
 pub mod Cases
 pub mod Ends
+pub mod Proposals

@@ -24,7 +24,7 @@ use Rattle.asdu.specs.declared.command.Reading.the-variants.{LengthOutOfRange, 
 use Rattle.asdu.specs.Command.{readAs, outcomeOf, isProcess}
 use Rattle.asdu.specs.Header.{Asdu}
 use Rattle.asdu.specs.Confirmation.{reply, objectsOf}
-use Rattle.report.specs.Order.{pointsOf}
+use Rattle.report.specs.Order.{ownPoints}
 use Rattle.report.specs.Single.{spontaneousAsdu}
 use Rattle.answers.specs.Said.{Said, unsaid}
 
@@ -83,13 +83,18 @@ processCauseTaken cause = eqb cause request || (eqb cause activation || eqb caus
 
 -- ---- updates
 
--- The point that an update means: registered at its address, and of its type.
+-- The point at an address of a table, or none.
+abbrev pub addressed : Table → ℕ → ℕ → Option Point
+addressed t ca ioa = pointIn ioa (ownPoints ca (t .stations))
+
+-- A point with another value: octets past its element are zero.
+abbrev pub revalued : Point → List ℕ → Point
+revalued p v = withValue (element (pointOctets (p .kind)) v) p
+
+-- The point that an update means, with its new value: registered at its address, and of its type.
 unfoldable pub updated : Update → Option Point → Option Point
 updated u none = none
-updated u (some p) =
-    pick (eqb (p .kind) (u .kind))
-    (some (withValue (element (pointOctets (p .kind)) (u .value)) p))
-    none
+updated u (some p) = pick (eqb (p .kind) (u .kind)) (some (revalued p (u .value))) none
 
 -- A point in place of the one with its IOA.
 unfoldable pub replaceIn : Point → List Point → List Point
@@ -106,7 +111,7 @@ toldOf u (some p) = spontaneousAsdu (u .ca) p ∷ []
 
 -- The new value of a point by an update of a table.
 abbrev pub updateOf : Table → Update → Option Point
-updateOf t u = updated u (pointIn (u .ioa) (pointsOf (stationOf (u .ca) (t .stations))))
+updateOf t u = updated u (addressed t (u .ca) (u .ioa))
 
 -- The updates go in order: the table after them, and what they tell, one after another.
 unfoldable pub tableAfter : Table → List Update → Table

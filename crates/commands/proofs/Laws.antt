@@ -4,17 +4,15 @@ use mathlib.Core.List.{List, [], _∷_}
 use mathlib.Core.Logic.{⊎-elim}
 use mathlib.Core.Bool.{Bool, true, false}
 use mathlib.Core.Option.{some}
-use Prim.Native.Nat.{ℕ, _+_, _-_, _/_, _≤_, _<_}
+use Prim.Native.Nat.{ℕ, _+_, _/_, _≤_, _<_}
 use native.Mathlib.Omega.{arith}
 use lib.ListN.{length}
-use borrow.Author.Tests.{le-leb, lt-leb, leb-true}
+use borrow.Author.Tests.{le-leb, lt-leb}
 use types.Run.{OneOf}
 use denote.Enum.Declared.{tagOf}
 use Rattle.limits.specs.Test.{pick}
-use Rattle.limits.specs.Size.{controlOctets, headerOctets}
-use Rattle.limits.specs.Outcome.{isDone}
+use Rattle.limits.specs.Size.{headerOctets}
 use Rattle.limits.specs.declared.outcome.Outcome.the-variants.{Done, Silent, AnswerShort, SpontaneousShort, BadProposal}
-use Rattle.limits.proofs.Tests.{both}
 use Rattle.octets.specs.Over.{over}
 use Rattle.table.specs.Table.{Table}
 use Rattle.table.specs.Settings.{limitOf}
@@ -27,12 +25,15 @@ use Rattle.asdu.specs.declared.command.Reading.the-variants.{LengthOutOfRange, 
 use Rattle.asdu.specs.declared.command.Entry.the-variants.{ProcessCommands}
 use Rattle.asdu.specs.Command.{readAs, outcomeOf}
 use Rattle.asdu.proofs.command.Reading.{the-type}
-use Rattle.asdu.proofs.Lengths.{length-reply}
+use Rattle.asdu.specs.Header.{Asdu, asduOctets, wire}
+use Rattle.asdu.specs.Puts.{Puts}
+use Rattle.asdu.proofs.Laws.{wire-one}
 use Rattle.answers.specs.declared.Answered.{Answered}
-use Rattle.answers.specs.Said.{Said, Lent, lent, fronted, outcomeWith, answeredFrom, lentFrom, Leaves, asItIs, nothing}
-use Rattle.answers.specs.Process.{Update, Proposal, updateOctets, updatesAt, updatesIn, proposalOk, processCauseTaken, processReply, processFrom, processSaid}
-use Rattle.answers.proofs.Ends.{front-is, ends-nothing, ends-refused}
-use Rattle.updates.specs.Updates.{toldByAll, leftByAll}
+use Rattle.answers.specs.Said.{Said, Lent, lent, size, fronted, outcomeWith, answeredFrom, lentFrom, Leaves, asItIs, nothing}
+use Rattle.answers.specs.Process.{Update, Proposal, updateOctets, updatesAt, updatesIn, proposalOk, processCauseTaken, toldBy, processReply, processFrom, processSaid}
+use Rattle.answers.proofs.Proposals.{whole-reply, length-confirmed}
+use Rattle.answers.proofs.Ends.{front-is, ends-nothing, ends-refused, ends-alike}
+use Rattle.updates.specs.Updates.{leftByAll}
 use Rattle.commands.specs.Entry.{proposalOf}
 
 -- What is met of a result is met of one that is equal.
@@ -43,24 +44,24 @@ gives f l l′ r r′ e h = record { answers = e ∙ h .answers; leaves = h .lea
 
 module _ (f : Table → Said) (l : Lent) (w : wellFormed (l .table) ≡ true) (done : f (tableOf (l .table)) .outcome ≡ Done) where
   -- What is told does not fit: 5.
-  ends-untold : length (l .spontaneous) < length (f (tableOf (l .table)) .told) → Leaves asItIs f l (nothing SpontaneousShort) l
+  ends-untold : length (l .spontaneous) < size (f (tableOf (l .table)) .told) → Leaves asItIs f l (nothing SpontaneousShort) l
   unfolding outcomeWith
   ends-untold h = ends-nothing f l w SpontaneousShort (simp (done, lt-leb _ _ h)) refl
 
   -- What is told fits, the answer does not: 4.
-  ends-unanswered : length (f (tableOf (l .table)) .told) ≤ length (l .spontaneous) → length (l .answer) < length (f (tableOf (l .table)) .answer)
+  ends-unanswered : size (f (tableOf (l .table)) .told) ≤ length (l .spontaneous) → length (l .answer) < size (f (tableOf (l .table)) .answer)
       → Leaves asItIs f l (nothing AnswerShort) l
   unfolding outcomeWith
   ends-unanswered k h = ends-nothing f l w AnswerShort (simp (done, le-leb _ _ k, lt-leb _ _ h)) refl
 
-  both-fit : length (f (tableOf (l .table)) .told) ≤ length (l .spontaneous) → length (f (tableOf (l .table)) .answer) ≤ length (l .answer)
+  both-fit : size (f (tableOf (l .table)) .told) ≤ length (l .spontaneous) → size (f (tableOf (l .table)) .answer) ≤ length (l .answer)
       → outcomeWith (f (tableOf (l .table))) l ≡ Done
   unfolding outcomeWith
   both-fit k h = simp (done, le-leb _ _ k, le-leb _ _ h)
 
   -- Both fit.
-  ends-told : (n k : ℕ) (l′ : Lent) → n ≡ length (f (tableOf (l .table)) .answer) → n ≤ length (l .answer)
-      → k ≡ length (f (tableOf (l .table)) .told) → k ≤ length (l .spontaneous)
+  ends-told : (n k : ℕ) (l′ : Lent) → n ≡ size (f (tableOf (l .table)) .answer) → n ≤ length (l .answer)
+      → k ≡ size (f (tableOf (l .table)) .told) → k ≤ length (l .spontaneous)
       → l′ ≡ record {
         table = holding (l .table) (tableOf (l .table)) (f (tableOf (l .table)) .after);
         clock = f (tableOf (l .table)) .clock;
@@ -77,11 +78,6 @@ module _ (f : Table → Said) (l : Lent) (w : wellFormed (l .table) ≡ true) (d
         leaves = s ∙ sym (ap (lentFrom f l) p ∙ simp d);
       }
 
--- A good proposal has no more octets of objects than the length limit leaves.
-pub most-reply : (limit kind : ℕ) (objects : List ℕ) → proposalOk limit kind objects ≡ true → length objects ≤ limit - (controlOctets + headerOctets)
-unfolding proposalOk
-most-reply limit kind objects ok = leb-true _ _ (both _ _ (both _ _ ok .1) .0)
-
 -- ---- the updates that are read
 
 -- None of a negative proposal is read.
@@ -97,13 +93,13 @@ module _ (l : Lent) (negative : Bool) (kind : ℕ) (objects us : List ℕ) (c : 
   abbrev said : Table → Said
   said = processFrom (l .clock) (proposalOf negative kind objects us) (Parsed c)
 
-  abbrev told : List ℕ
-  told = toldByAll (l .table) us 0 (pick negative 0 (length us / updateOctets))
+  abbrev tells : List Asdu
+  tells = toldBy (tableOf (l .table)) (updatesAt us 0 (pick negative 0 (length us / updateOctets)))
 
   abbrev stored : List ℕ
   stored = leftByAll (l .table) us 0 (pick negative 0 (length us / updateOctets))
 
-  abbrev confirmed : List ℕ
+  abbrev confirmed : Asdu
   confirmed = processReply c (proposalOf negative kind objects [])
 
   module _ (w : wellFormed (l .table) ≡ true) where
@@ -124,11 +120,11 @@ module _ (l : Lent) (negative : Bool) (kind : ℕ) (objects us : List ℕ) (c : 
         unfolding processFrom
         said-done = simp (taken, ok)
 
-        said-answer : said (tableOf (l .table)) .answer ≡ confirmed
+        said-answer : said (tableOf (l .table)) .answer ≡ confirmed ∷ []
         unfolding processFrom
         said-answer = simp (taken, ok)
 
-        said-told : said (tableOf (l .table)) .told ≡ told
+        said-told : said (tableOf (l .table)) .told ≡ tells
         unfolding processFrom
         said-told = simp (taken, ok, updates-read negative us)
 
@@ -140,33 +136,34 @@ module _ (l : Lent) (negative : Bool) (kind : ℕ) (objects us : List ℕ) (c : 
         unfolding processFrom
         said-clock = simp (taken, ok)
 
-        answer-length : length (said (tableOf (l .table)) .answer) ≡ headerOctets + length objects
-        answer-length = ap length said-answer ∙ length-reply c kind _ _ negative objects
+        answer-length : size (said (tableOf (l .table)) .answer) ≡ headerOctets + length objects
+        answer-length = ap size said-answer ∙ ap length (wire-one confirmed) ∙ length-confirmed c (proposalOf negative kind objects []) (whole-reply _ kind objects ok)
 
         -- The spontaneous memory is short: 5.
-        pub process-untold : length (l .spontaneous) < length told → Leaves asItIs said l (nothing SpontaneousShort) l
-        process-untold h = let e = ap length said-told in ends-untold said l w said-done (omega arith)
+        pub process-untold : length (l .spontaneous) < size tells → Leaves asItIs said l (nothing SpontaneousShort) l
+        process-untold h = let e = ap size said-told in ends-untold said l w said-done (omega arith)
 
         -- The answer memory is short: 4.
-        pub process-unanswered : length told ≤ length (l .spontaneous) → length (l .answer) < headerOctets + length objects
+        pub process-unanswered : size tells ≤ length (l .spontaneous) → length (l .answer) < headerOctets + length objects
             → Leaves asItIs said l (nothing AnswerShort) l
         process-unanswered k h =
-            let e = ap length said-told in
+            let e = ap size said-told in
             let f = answer-length in
             ends-unanswered said l w said-done (omega arith) (omega arith)
 
         -- Stored, told and confirmed.
-        pub process-done : (table answer spontaneous : List ℕ) (n k : ℕ) → n ≡ headerOctets + length objects → n ≤ length (l .answer)
-            → k ≡ length told → k ≤ length (l .spontaneous)
-            → table ≡ stored → answer ≡ over (l .answer) 0 confirmed → spontaneous ≡ over (l .spontaneous) 0 told
+        pub process-done : (table answer spontaneous : List ℕ) (n k : ℕ) → Puts (asduOctets confirmed) (l .answer) n answer → headerOctets + length objects ≤ length (l .answer)
+            → k ≡ size tells → k ≤ length (l .spontaneous)
+            → table ≡ stored → spontaneous ≡ over (l .spontaneous) 0 (wire tells)
             → Leaves asItIs said l (record { outcome = Done; octets = n; spontaneous = k }) (lent table (l .clock) answer spontaneous)
-        process-done table answer spontaneous n k en ln ek lk et ea es =
-            let e = ap length said-told in
+        process-done table answer spontaneous n k p ln ek lk et es =
+            let e = ap size said-told in
             let f = answer-length in
+            let en : n ≡ size (said (tableOf (l .table)) .answer) = p .0 ∙ sym (ap size said-answer ∙ ap length (wire-one confirmed)) in
             let t = et ∙ sym said-after in
-            let a = ea ∙ front-is (l .answer) confirmed ∙ ap (λ (x : List ℕ). fronted x (l .answer)) (sym said-answer) in
-            let s = es ∙ front-is (l .spontaneous) told ∙ ap (λ (x : List ℕ). fronted x (l .spontaneous)) (sym said-told) in
-            ends-told said l w said-done n k _ (omega arith) ln (omega arith) lk (λ j. lent (t j) (sym said-clock j) (a j) (s j))
+            let a = p .1 ∙ ap (over (l .answer) 0) (sym (wire-one confirmed)) ∙ front-is (l .answer) (confirmed ∷ []) ∙ ap (λ (x : List Asdu). fronted x (l .answer)) (sym said-answer) in
+            let s = es ∙ front-is (l .spontaneous) tells ∙ ap (λ (x : List Asdu). fronted x (l .spontaneous)) (sym said-told) in
+            ends-told said l w said-done n k _ en (omega arith) (omega arith) lk (λ j. lent (t j) (sym said-clock j) (a j) (s j))
 
 -- ---- what was read
 
@@ -183,12 +180,5 @@ process-unread l p w (Parsed c) k = absurd (⊎-elim (λ e. omega arith) (λ v. 
 pub process-read : (l l′ : Lent) (p : Proposal) (m : List ℕ) (r : Answered) (x : Reading) → wellFormed (l .table) ≡ true
     → x ≡ readAs (limitOf (tableOf (l .table))) ProcessCommands m
     → Leaves asItIs (processFrom (l .clock) p x) l r l′ → Leaves asItIs (processSaid (l .clock) p m) l r l′
-unfolding answeredFrom lentFrom
 process-read l l′ p m r x w e h =
-    let t : Table = tableOf (l .table) in
-    let q : parse (l .table) ≡ some t = parse-some (l .table) w in
-    let f : Reading → Table → Said = λ y u. processFrom (l .clock) p y u in
-    record {
-      answers = h .answers ∙ ap (answeredFrom (f x) l) q ∙ (λ j. answeredFrom (f (e j)) l (some t)) ∙ sym (ap (answeredFrom (processSaid (l .clock) p m) l) q);
-      leaves = h .leaves ∙ ap (lentFrom (f x) l) q ∙ (λ j. lentFrom (f (e j)) l (some t)) ∙ sym (ap (lentFrom (processSaid (l .clock) p m) l) q);
-    }
+    ends-alike (processFrom (l .clock) p x) l w (processSaid (l .clock) p m) (ap (λ (y : Reading). processFrom (l .clock) p y (tableOf (l .table))) e) r l′ h

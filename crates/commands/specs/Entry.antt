@@ -1,9 +1,12 @@
 -- The arguments of the entry for process commands as the definitions of `answers` have them.
-use Prim.Native.Nat.{ℕ}
+use Prim.Native.Nat.{ℕ, _+_, _%_}
+use mathlib.Core.Path.{_≡_}
 use mathlib.Core.List.{List, []}
 use mathlib.Core.Bool.{Bool}
+use lib.ListN.{length}
 use denote.Triple.Both.{Both}
 use denote.Ref.{RefT, now}
+use Rattle.limits.specs.Size.{addressOctets, elementOctets}
 use Rattle.answers.specs.Said.{Lent, lent}
 use Rattle.answers.specs.Process.{Proposal, updatesIn}
 
@@ -26,3 +29,9 @@ asFound table answer spontaneous = lent (now (table .entry)) [] (now (answer .en
 -- And as it leaves them.
 abbrev pub asLeft : Memory → Memory → Memory → Lent
 asLeft table answer spontaneous = lent (now (table .exit)) [] (now (answer .exit)) (now (spontaneous .exit))
+
+-- ---- as the code reads
+
+-- the octets of a reply are whole objects of its type
+abbrev pub WholeReply : ℕ → List ℕ → Type 0
+WholeReply kind objects = length objects % (addressOctets + elementOctets kind) ≡ 0

@@ -17,13 +17,14 @@ ghost use Prim.Native.Nat.{_+_, _*_, _/_, _≤_, _<_};
 ghost use lib.ListN.{length};
 ghost use Rattle.limits.specs.Test.{pick};
 ghost use Rattle.limits.specs.Size.{classOf, controlOctets, headerOctets};
-ghost use Rattle.octets.specs.Over.{over};
 ghost use Rattle.table.specs.Memory.{wellFormed};
 ghost use Rattle.asdu.specs.Command.{isProcess};
+ghost use Rattle.asdu.specs.Header.{asduOctets};
+ghost use Rattle.asdu.specs.Puts.{Puts};
 ghost use Rattle.asdu.specs.declared.command.Reading.the-variants.{Parsed};
 ghost use Rattle.answers.specs.Said.{Leaves, asItIs};
 ghost use Rattle.answers.specs.Process.{updateOctets, proposalOk, processCauseTaken, confirmationCause, processReply, processFrom, processSaid};
-ghost use Rattle.commands.specs.Entry.{proposalOf, proposed, asFound, asLeft};
+ghost use Rattle.commands.specs.Entry.{proposalOf, proposed, WholeReply, asFound, asLeft};
 
 // The octets of an APDU before its first object.
 const BEFORE_OBJECTS: usize = CONTROL_OCTETS + HEADER_OCTETS;
@@ -100,8 +101,8 @@ fn send_command_confirmation(
     kind: u8,
     reply: &[u8],
 ) -> usize
-    requires { ⌜ (length (now reply) < 256) × (headerOctets + length (now reply) ≤ length (now answer)) ⌝ }
-    ensures { λ r. ⌜ (r ≡ headerOctets + length (now (reply .entry))) × (now (answer .exit) ≡ over (now (answer .entry)) 0 (processReply command (proposalOf negative kind (now (reply .entry)) []))) ⌝ }
+    requires { ⌜ WholeReply kind (now reply) × (length (now reply) < 256) × (headerOctets + length (now reply) ≤ length (now answer)) ⌝ }
+    ensures { λ r. ⌜ Puts (asduOctets (processReply command (proposalOf negative kind (now (reply .entry)) []))) (now (answer .entry)) r (now (answer .exit)) ⌝ }
 {
     let element = limits::size::element_octets(kind);
     let count = (reply.len() / (ADDRESS_OCTETS + element)) as u8;

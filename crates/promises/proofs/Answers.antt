@@ -24,7 +24,8 @@ use Rattle.registry.specs.Registry.{shareIn, shareFrom}
 use Rattle.registry.specs.Opening.{opens, openOutcome, openedMemory}
 use Rattle.registry.proofs.Effects.{refusal-keeps-memory}
 use Rattle.answers.specs.declared.Answered.{Answered}
-use Rattle.answers.specs.Said.{Said, Lent, fits, outcomeWith, answeredFrom, answeredOn, lentAfter}
+use Rattle.asdu.specs.Header.{Asdu}
+use Rattle.answers.specs.Said.{Said, Lent, size, fits, outcomeWith, answeredFrom, answeredOn, lentAfter}
 use Rattle.answers.proofs.Common.{refused-says-nothing, past-the-reported}
 use Rattle.khuvelter.specs.Interface.{narrowed, flatShare}
 use Rattle.khuvelter.specs.declared.Reply.{Reply}
@@ -76,14 +77,14 @@ said-beyond f l = by-test (isDone (answeredOn f l .outcome)) refl
 
 -- ---- what is told lies in its memory, so that in one of less than 2^32 octets it is reported whole; answers are small (Small.antt)
 
-fits-is : (octets memory : List ℕ) (o : Outcome) → isDone o ≡ false → pick (fits octets memory) Done o ≡ Done → length octets ≤ length memory
-fits-is octets memory o n e = by-test (fits octets memory) refl e
+fits-is : (asdus : List Asdu) (memory : List ℕ) (o : Outcome) → isDone o ≡ false → pick (fits asdus memory) Done o ≡ Done → size asdus ≤ length memory
+fits-is asdus memory o n e = by-test (fits asdus memory) refl e
   where
-    by-test : (b : Bool) → fits octets memory ≡ b → pick b Done o ≡ Done → length octets ≤ length memory
+    by-test : (b : Bool) → fits asdus memory ≡ b → pick b Done o ≡ Done → size asdus ≤ length memory
     by-test true t e′ = leb-true _ _ t
     by-test false t e′ = not-both (sym n ∙ ap isDone e′)
 
-told-fits : (s : Said) (l : Lent) → outcomeWith s l ≡ Done → length (s .told) ≤ length (l .spontaneous)
+told-fits : (s : Said) (l : Lent) → outcomeWith s l ≡ Done → size (s .told) ≤ length (l .spontaneous)
 unfolding outcomeWith
 told-fits s l e =
     let told : Outcome = pick (fits (s .told) (l .spontaneous)) Done SpontaneousShort in
@@ -97,7 +98,7 @@ module _ (f : Table → Said) (l : Lent) where
   told-within none = omega arith
   told-within (some t) = by-test (isDone (outcomeWith (f t) l)) refl
     where
-      by-test : (b : Bool) → isDone (outcomeWith (f t) l) ≡ b → pick b (length (f t .told)) 0 ≤ length (l .spontaneous)
+      by-test : (b : Bool) → isDone (outcomeWith (f t) l) ≡ b → pick b (size (f t .told)) 0 ≤ length (l .spontaneous)
       by-test true e = told-fits (f t) l (done-is _ e)
       by-test false e = omega arith
 

@@ -2,10 +2,10 @@
 -- Assumes nothing.
 use Prim.Native.Nat.{ℕ}
 use mathlib.Core.Path.{_≡_, refl, ap, _∙_, subst}
-use mathlib.Core.List.{List, [], _∷_, map}
+use mathlib.Core.List.{List, [], _∷_, _++_, map}
 use mathlib.Core.Bool.{Bool, true, false}
 use mathlib.Core.Option.{Option, none, some}
-use lib.ListN.{length, replicate, length-replicate}
+use lib.ListN.{length, drop, replicate, length-replicate}
 use lib.Dec.{eqb}
 use borrow.Author.Tests.{eqb-true}
 use Rattle.limits.specs.Test.{_&_, pick, total}
@@ -21,10 +21,10 @@ use Rattle.table.specs.Memory.{parse}
 use Rattle.table.proofs.Parse.{Good, good-is, is-good}
 use Rattle.asdu.specs.Command.{readAs}
 use Rattle.asdu.specs.Confirmation.{confirmation, reply}
-use Rattle.asdu.specs.Header.{header, object, asdu}
+use Rattle.asdu.specs.Header.{header, objectOctets, asduOctets, wire}
 use Rattle.report.specs.Packing.{selected, joined, flat, cut, chunks, Each}
 use Rattle.report.specs.Selection.{interrogationTypes, interrogationTypesOf, counterTypes}
-use Rattle.report.specs.Report.{objectOf, octetsOf, pieces, asdus, report}
+use Rattle.report.specs.Report.{objectOf, run, report}
 use Rattle.report.specs.Order.{pointsFor}
 use Rattle.registry.specs.Effect.{Effect, next, replyFrom}
 use Rattle.registry.specs.Registry.{isPlanned, isRegistered, roomFault, requestOutcome, registering, unregistering}
@@ -33,7 +33,7 @@ use Rattle.registry.specs.History.Call.{command}
 use Rattle.registry.proofs.Effects.{parse-after}
 use Rattle.registry.proofs.Histories.{keeps}
 use Rattle.opening.proofs.Fresh.{opens-good, opened-parses, opens-done}
-use Rattle.answers.specs.Said.{Said, Lent, lent, fronted, outcomeWith, answeredFrom, lentFrom}
+use Rattle.answers.specs.Said.{Said, Lent, lent, outcomeWith, answeredFrom, lentFrom}
 use Rattle.answers.specs.System.{systemFrom, isSilent, commandSaid, interrogationAnswer, counterAnswer, afterCounters, resetBy, resetAt, resetIn, reported, answerTo}
 use Rattle.answers.proofs.Common.{effectIn, command-effect}
 use Rattle.khuvelter.specs.Interface.{placeReply, answerReply}
@@ -56,7 +56,7 @@ effected f t = record { reply = placeReply (record { outcome = f t .outcome; pla
 
 abbrev answered : (Table → Said) → Lent → Table → Went
 answered f l t =
-    record { reply = answerReply (answeredFrom f l (some t)); said = pick (isDone (outcomeWith (f t) l)) (f t .answer) []; after = next (effectIn f l) t }
+    record { reply = answerReply (answeredFrom f l (some t)); said = pick (isDone (outcomeWith (f t) l)) (wire (f t .answer)) []; after = next (effectIn f l) t }
 
 -- The calls that the cases make, with this clock, answer and spontaneous memory.
 unfoldable went : Call → List ℕ → List ℕ → List ℕ → Table → Option Went
@@ -72,7 +72,7 @@ record Has (m : List ℕ) (t : Table) : Type 0 where
 -- The call on the memory is the call on the table.
 record Is (c : Call) (l : Lent) (w : Went) : Type 0 where
   replied : replyTo c l ≡ w .reply
-  wrote : leftBy c l .answer ≡ fronted (w .said) (l .answer)
+  wrote : leftBy c l .answer ≡ w .said ++ drop (length (w .said)) (l .answer)
   left : Has (leftBy c l .table) (w .after)
 
 module _ (l : Lent) (t : Table) (h : Has (l .table) t) where
@@ -86,11 +86,13 @@ module _ (l : Lent) (t : Table) (h : Has (l .table) t) where
         left = record { read = parse-after (effectBy c) (l .table) t (h .read) (is-good _ g); is-good = g };
       }
 
-  said-front : (f : Table → Said) (l₁ : Lent) → lentFrom f l₁ (some t) .answer ≡ fronted (pick (isDone (outcomeWith (f t) l₁)) (f t .answer) []) (l₁ .answer)
+  said-front : (f : Table → Said) (l₁ : Lent) → lentFrom f l₁ (some t) .answer
+      ≡ pick (isDone (outcomeWith (f t) l₁)) (wire (f t .answer)) [] ++ drop (length (pick (isDone (outcomeWith (f t) l₁)) (wire (f t .answer)) [])) (l₁ .answer)
   unfolding lentFrom
   said-front f l₁ = by-test (isDone (outcomeWith (f t) l₁)) refl
     where
-      by-test : (b : Bool) → isDone (outcomeWith (f t) l₁) ≡ b → lentFrom f l₁ (some t) .answer ≡ fronted (pick b (f t .answer) []) (l₁ .answer)
+      by-test : (b : Bool) → isDone (outcomeWith (f t) l₁) ≡ b → lentFrom f l₁ (some t) .answer
+          ≡ pick b (wire (f t .answer)) [] ++ drop (length (pick b (wire (f t .answer)) [])) (l₁ .answer)
       by-test true e = simp e
       by-test false e = simp e
 
@@ -171,7 +173,7 @@ line-is x xs m t h rest (some w) is e =
     let b = both _ _ (a .1) in
     let c = both _ _ (b .1) in (
       is .replied ∙ same-reply-is (w .reply) (expected x) (a .0),
-      is .wrote ∙ ap (λ (y : List ℕ). fronted y (replicate (x .room) 0xEE)) (same-is (w .said) (flat (x .asdus)) (b .0)),
+      is .wrote ∙ ap (λ (y : List ℕ). y ++ drop (length y) (replicate (x .room) 0xEE)) (same-is (w .said) (flat (x .asdus)) (b .0)),
       same-is (map length (x .asdus)) (x .sizes) (c .0),
       rest (w .after) (is .left) (c .1),
     )
@@ -209,7 +211,7 @@ all-is (c ∷ cs) e = (case-is c (both _ _ e .0), all-is cs (both _ _ e .1))
 -- ---- the table
 
 agreed : all-agree cases ≡ true
-unfolding cases many objects went agrees agrees-on same same-reply case-agrees all-agree _&_ total opens validPlan planned planOk numbersOk registering requestOutcome isPlanned isRegistered ownFault roomFault added changed inStation insertIn seekIn known pointOf element unregistering removed removeIn pointTypes systemTypes processTypes endTypes namedTypes pointOctets elementOctets octetsIn listed classOf stationOf readAs confirmation reply header object asdu selected joined cut chunks interrogationTypes interrogationTypesOf counterTypes limitOf objectOf octetsOf pieces asdus report pointsFor systemFrom isSilent commandSaid interrogationAnswer counterAnswer afterCounters resetBy resetAt resetIn reported answerTo outcomeWith answeredFrom effectIn
+unfolding cases many objects went agrees agrees-on same same-reply case-agrees all-agree _&_ total opens validPlan planned planOk numbersOk registering requestOutcome isPlanned isRegistered ownFault roomFault added changed inStation insertIn seekIn known pointOf element unregistering removed removeIn pointTypes systemTypes processTypes endTypes namedTypes pointOctets elementOctets octetsIn listed classOf stationOf readAs confirmation reply header objectOctets asduOctets wire selected joined cut chunks interrogationTypes interrogationTypesOf counterTypes limitOf objectOf run report pointsFor systemFrom isSilent commandSaid interrogationAnswer counterAnswer afterCounters resetBy resetAt resetIn reported answerTo outcomeWith answeredFrom effectIn
 agreed = refl
 
 -- Cases a to j of document 01 come out of the entries' definitions, octet by octet.

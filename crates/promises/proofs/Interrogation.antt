@@ -17,23 +17,26 @@ use Rattle.model.specs.Place.{pointOk, valid}
 use Rattle.table.specs.Table.{Station, Table, rising}
 use Rattle.table.specs.Settings.{limitOf}
 use Rattle.table.specs.Memory.{tableOf, wellFormed}
-use Rattle.table.proofs.Parse.{passed, printed, holds}
+use Rattle.table.proofs.Parse.{Good, is-good, passed, printed, holds}
+use Rattle.table.proofs.Settings.{limit-least}
 use Rattle.table.proofs.Change.{station-found, station-rises}
 use Rattle.registry.specs.Effect.{holding}
+use Rattle.asdu.specs.Header.{Asdu}
 use Rattle.asdu.specs.declared.command.Command.{Command}
 use Rattle.asdu.specs.declared.command.Reading.{Reading}
 use Rattle.report.specs.declared.Selection.{Selection}
 use Rattle.report.specs.Packing.{selected}
 use Rattle.report.specs.Selection.{selects, among, interrogationTypes, interrogationTypesOf}
 use Rattle.report.specs.Report.{report}
+use Rattle.report.proofs.Cases.{interrogation-ascending}
 use Rattle.report.specs.Order.{pointsFor, pointsOf}
 use Rattle.answers.specs.declared.Choice.{Choice}
 use Rattle.answers.specs.declared.Choice.the-variants.{Selected, Denied}
-use Rattle.answers.specs.Said.{Said, Lent, lent, says, fronted, Leaves, asItIs, given}
+use Rattle.answers.specs.Said.{Said, Lent, lent, size, says, fronted, Leaves, asItIs, given}
 use Rattle.answers.specs.System.{qualifierOf, confirmed, terminated, interrogated, isSilent, interrogationAnswer, answerTo, reported, commandSaid, systemFrom, systemSaid}
 use Rattle.answers.proofs.Ends.{ends-short, ends-done}
 use Rattle.faithful.specs.Faithful.{Faithful}
-use Rattle.faithful.proofs.Theorem.{interrogation-faithful}
+use Rattle.faithful.proofs.Theorem.{faithful}
 use Rattle.khuvelter.specs.Interface.{answerReply}
 use Rattle.khuvelter.proofs.Whole.{whole}
 use Rattle.khuvelter.specs.Calls.{replyTo, leftBy}
@@ -105,15 +108,15 @@ module _ (m : List ℕ) (c : Command) (sel : Selection) (t : Table) (s : Station
       ap (λ (r : Reading). systemFrom clock m r t) (a .read)
       ∙ (simp (heard, a .kind)
       (ap (λ (x : Choice). says (answerTo t c m (interrogationTypesOf t) (qualifierOf m) x) t clock) (a .asked)
-      ∙ ap (λ (ps : List Point). says (confirmed c m ++ (report (limitOf t) (interrogationTypesOf t) (qualifierOf m) (c .ca) (selected (selects sel) ps) ++ terminated c m)) t clock) its-points))
+      ∙ ap (λ (ps : List Point). says (confirmed c m ∷ (report (limitOf t) (interrogationTypesOf t) (qualifierOf m) (c .ca) (selected (selects sel) ps) ++ (terminated c m ∷ []))) t clock) its-points))
 
 -- ---- demand 2
 
 -- A station's report is faithful, by whatever limit and types the table's settings say.
-station-faithful : (t : Table) (cause ca : ℕ) (sel : Selection) (s : Station) → rising 0 (s .points) ≡ true
+station-faithful : (t : Table) → Good t → (cause ca : ℕ) (sel : Selection) (s : Station) → rising 0 (s .points) ≡ true
     → Faithful (limitOf t) (interrogationTypesOf t) cause ca (selects sel) (s .points)
-unfolding limitOf interrogationTypesOf
-station-faithful t cause ca sel s r = interrogation-faithful cause ca sel s r
+unfolding interrogationTypesOf
+station-faithful t g cause ca sel s r = faithful (limitOf t) (limit-least t (is-good t g)) interrogationTypes interrogation-ascending cause ca (selects sel) (s .points) r
 
 module _ (m : List ℕ) (c : Command) (sel : Selection) (s : Station) (l : Lent) (o : Octets (l .table)) (w : wellFormed (l .table) ≡ true)
     (a : Accepted m c sel (tableOf (l .table)) s) where
@@ -123,30 +126,30 @@ module _ (m : List ℕ) (c : Command) (sel : Selection) (s : Station) (l : Lent)
   abbrev f : Table → Said
   f = systemSaid (l .clock) m
 
-  abbrev octets : List ℕ
-  octets = wholeAnswer m c sel t s
+  abbrev answer : List Asdu
+  answer = wholeAnswer m c sel t s
 
-  said : f t ≡ says octets t (l .clock)
+  said : f t ≡ says answer t (l .clock)
   said = accepted-said m c sel t s a (l .clock)
 
   rises : rising 0 (s .points) ≡ true
   rises = station-rises t (c .ca) s (holds (l .table) o w .0) (station-found (c .ca) (t .stations) s (a .planned))
 
   -- With room enough for the answer.
-  answers : length octets ≤ length (l .answer) → Leaves asItIs f l (given (length octets)) (lent (l .table) (l .clock) (fronted octets (l .answer)) (l .spontaneous))
+  answers : size answer ≤ length (l .answer) → Leaves asItIs f l (given (size answer)) (lent (l .table) (l .clock) (fronted answer (l .answer)) (l .spontaneous))
   answers room =
-      ends-done f l w (length octets) _ (ap (λ (x : Said). x .outcome) said) (ap (λ (x : Said). x .told) said)
-      (sym (ap (λ (x : Said). length (x .answer)) said)) room
-      (ap (λ (n : List ℕ). lent n (l .clock) (fronted octets (l .answer)) (l .spontaneous)) (printed (l .table) o (passed (l .table) w))
+      ends-done f l w (size answer) _ (ap (λ (x : Said). x .outcome) said) (ap (λ (x : Said). x .told) said)
+      (sym (ap (λ (x : Said). size (x .answer)) said)) room
+      (ap (λ (n : List ℕ). lent n (l .clock) (fronted answer (l .answer)) (l .spontaneous)) (printed (l .table) o (passed (l .table) w))
       ∙ sym (ap (λ (x : Said). lent (holding (l .table) t (x .after)) (x .clock) (fronted (x .answer) (l .answer)) (l .spontaneous)) said))
 
-  reported-once : length octets ≤ length (l .answer) → Reports m c sel t s l
+  reported-once : size answer ≤ length (l .answer) → Reports m c sel t s l
   reported-once room =
       let e = answers room in
-      let y = station-faithful t (qualifierOf m) (c .ca) sel s rises in
-      let few = ap (λ (x : Said). length (x .answer)) said in
+      let y = station-faithful t (holds (l .table) o w .0) (qualifierOf m) (c .ca) sel s rises in
+      let few = ap (λ (x : Said). size (x .answer)) said in
       let small = question-small (system m) (l .clock) t (holds (l .table) o w .0) .is-small in
-      let n = whole (length octets) (omega arith) in
+      let n = whole (size answer) (omega arith) in
       record {
         answered = sym (e .answers);
         replied = ap answerReply (sym (e .answers)) ∙ (λ j. record { number = 0; place = 0; octets = n j; spontaneous = 0 });
@@ -156,11 +159,11 @@ module _ (m : List ℕ) (c : Command) (sel : Selection) (s : Station) (l : Lent)
       }
 
   -- With less room it is number 4, nothing is reported, and every memory is as it was.
-  refused-whole : length (l .answer) < length octets
+  refused-whole : length (l .answer) < size answer
       → (replyTo (ask (system m)) l ≡ record { number = 4; place = 0; octets = 0; spontaneous = 0 }) × (leftBy (ask (system m)) l ≡ l)
   refused-whole short =
       let e = ends-short f l w (ap (λ (x : Said). x .outcome) said) (ap (λ (x : Said). x .told) said)
-      (subst (λ (x : Said). length (l .answer) < length (x .answer)) (sym said) short) in
+      (subst (λ (x : Said). length (l .answer) < size (x .answer)) (sym said) short) in
       (ap answerReply (sym (e .answers)), sym (e .leaves))
 
 pub the-right-answer : TheRightAnswer

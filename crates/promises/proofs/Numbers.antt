@@ -32,7 +32,9 @@ use Rattle.records.specs.Records.{requestsIn}
 use Rattle.asdu.specs.declared.command.Command.{Command}
 use Rattle.asdu.specs.declared.command.Reading.{Reading}
 use Rattle.asdu.specs.declared.command.Reading.the-variants.{LengthOutOfRange, TypeNotServed, ObjectsNotWhole, Parsed}
-use Rattle.answers.specs.Said.{Said, Lent, fits, outcomeWith, answeredFrom, answeredOn}
+use Rattle.asdu.specs.Header.{Asdu}
+use Rattle.asdu.proofs.Laws.{wire-none}
+use Rattle.answers.specs.Said.{Said, Lent, size, fits, outcomeWith, answeredFrom, answeredOn}
 use Rattle.answers.specs.System.{isSilent, interrogationType, countersType, readType, clockType, commandSaid, systemFrom, systemSaid}
 use Rattle.answers.specs.Process.{Proposal, processCauseTaken, proposalOk, processFrom, processSaid}
 use Rattle.answers.specs.Start.{startSaid}
@@ -239,7 +241,7 @@ module _ (ns : List ℕ) (done : Gives ns Done) where
     -- Nothing told always fits.
     untold : (s : Said) (memory : List ℕ) → s .told ≡ [] → Gives ns (pick (fits (s .told) memory) Done SpontaneousShort)
     untold s memory e =
-        let z : fits (s .told) memory ≡ true = ap (λ (x : List ℕ). fits x memory) e ∙ le-leb 0 (length memory) (omega arith) in
+        let z : fits (s .told) memory ≡ true = ap (λ (x : List Asdu). leb (size x) (length memory)) e ∙ ap (λ (x : List ℕ). leb (length x) (length memory)) wire-none ∙ le-leb 0 (length memory) (omega arith) in
         simp z done
 
   -- System commands.
@@ -249,7 +251,7 @@ module _ (ns : List ℕ) (done : Gives ns Done) where
     command-gives clock m c t =
         gives-said ns (eqb (c .kind) interrogationType) _ _ done
         (gives-said ns (eqb (c .kind) countersType) _ _ done
-        (gives-said ns (eqb (c .kind) readType) _ _ done (gives-said ns (eqb (c .kind) clockType) _ _ done done)))
+        (gives-said ns (eqb (c .kind) readType) _ _ done done))
 
     system-gives : (clock m : List ℕ) (r : Reading) (t : Table) → Gives ns (systemFrom clock m r t .outcome)
     unfolding systemFrom
@@ -277,7 +279,7 @@ unfolding commandSaid
 command-untold clock m c t =
     pick-untold (eqb (c .kind) interrogationType) _ _ refl
     (pick-untold (eqb (c .kind) countersType) _ _ refl
-    (pick-untold (eqb (c .kind) readType) _ _ refl (pick-untold (eqb (c .kind) clockType) _ _ refl refl)))
+    (pick-untold (eqb (c .kind) readType) _ _ refl refl))
 
 system-untold : (clock m : List ℕ) (r : Reading) (t : Table) → systemFrom clock m r t .told ≡ []
 unfolding systemFrom

@@ -31,7 +31,7 @@ use Rattle.registry.proofs.Batches as batches
 use Rattle.registry.proofs.Requests.{planned-is, unregistered-is}
 use Rattle.registry.proofs.Histories.{station-numbers}
 use Rattle.report.specs.Selection.{among}
-use Rattle.promises.specs.Shares.{counted, AtCeiling, NotAdmittedIn, Alone, Turn, AtTurn, Exactly}
+use Rattle.promises.specs.Shares.{AtCeiling, NotAdmittedIn, Alone, Turn, AtTurn, Exactly}
 use Rattle.promises.proofs.Numbers.{own-gives}
 use Rattle.promises.specs.Shares.Turn.{turn-now, turn-later}
 

@@ -1,21 +1,21 @@
 -- Every answer has far fewer octets than 2^32: thirty types, at most 4,096 points, at most 127 objects in an ASDU.
 -- Assumes nothing.
-use Prim.Native.Nat.{ℕ, zero, suc, _+_, _*_, _-_, _/_, _≤_, _<_}
+use Prim.Native.Nat.{ℕ, zero, suc, _+_, _*_, _-_, _≤_, _<_}
 use mathlib.Core.Path.{_≡_, refl, ap, _∙_, subst}
-use mathlib.Core.List.{List, [], _∷_, _++_}
+use mathlib.Core.List.{List, [], _∷_, _++_, map}
 use mathlib.Core.Bool.{Bool, true, false, _||_, not}
 use mathlib.Core.Option.{Option, none, some}
 use native.Mathlib.Omega.{arith}
 use native.Mathlib.Nat.{mul-le-mul-right, div-le-self, min-le-right}
 use lib.ListN.{length, length-append}
 use lib.Dec.{eqb}
-use borrow.Author.Tests.{eqb-false, leb-true}
+use borrow.Author.Tests.{eqb-false}
 use Rattle.limits.specs.Test.{_&_, pick, total}
 use Rattle.limits.specs.Outcome.{isDone}
 use Rattle.limits.specs.declared.outcome.Outcome.{Outcome}
 use Rattle.limits.specs.declared.outcome.Outcome.the-variants.{Done, Silent, BadProposal}
 use Rattle.octets.specs.Number.{Octets}
-use Rattle.limits.specs.Size.{pointOctets, elementOctets, mostObjects, asdusOf, runOctets, controlOctets, headerOctets, addressOctets}
+use Rattle.limits.specs.Size.{pointOctets, mostObjects, asdusOf, runOctets, headerOctets, addressOctets}
 use Rattle.limits.proofs.Sizes.{point-at-most}
 use Rattle.limits.proofs.Tests.{both, total-append}
 use Rattle.model.specs.declared.Point.{Point}
@@ -33,27 +33,28 @@ use Rattle.asdu.specs.declared.command.Reading.the-variants.{LengthOutOfRange, 
 use Rattle.asdu.specs.Command.{readAs}
 use Rattle.asdu.proofs.Reading.{WellRead, parsed-is}
 use Rattle.asdu.specs.Confirmation.{confirmation, echo}
-use Rattle.asdu.proofs.Lengths.{length-reply, confirmation-fits, echo-fits}
+use Rattle.asdu.proofs.Laws.{wire-none, wire-one, wire-append}
+use Rattle.asdu.proofs.Lengths.{confirmation-fits, echo-fits}
 use Rattle.report.specs.declared.Selection.{Selection}
 use Rattle.report.specs.Packing.{selected, joined, Each}
 use Rattle.report.specs.Selection.{selects, interrogationTypes, interrogationTypesOf, counterTypes}
 use Rattle.report.specs.Report.{ofKind, report}
 use Rattle.report.specs.Order.{pointsOf, allPoints, byAddress, pointsFor}
-use Rattle.asdu.specs.Header.{globalAddress}
+use Rattle.asdu.specs.Header.{Asdu, globalAddress, asduOctets, wire}
 use Rattle.report.proofs.Packing.{length-joined}
 use Rattle.report.proofs.Each.{each-append, each-selected}
 use Rattle.report.proofs.Order.{length-sorted, sorted-each}
-use Rattle.report.specs.Single.{requestedAsdu, stationCommonAddress}
+use Rattle.report.specs.Single.{requestedAsdu, endOfInitializationAsdu, stationCommonAddress}
 use Rattle.report.proofs.Report.{Whole, length-report}
 use Rattle.report.proofs.Single.{length-single, length-end}
-use Rattle.asdu.specs.Cause.{activationConfirmation}
-use Rattle.answers.specs.System.{qualifierOf, confirmed, terminated, reported, answerTo, interrogationAnswer, counterAnswer, counterCause, chosen, interrogated, addressesIn, pointsAsked, pointsRead, readAnswer, interrogationType, countersType, readType, clockType, commandSaid, causeTaken, isSilent, systemFrom}
+use Rattle.answers.specs.System.{qualifierOf, confirmed, denied, echoed, terminated, reported, answerTo, interrogationAnswer, counterAnswer, counterCause, chosen, interrogated, addressesIn, pointsAsked, pointsRead, readAnswer, interrogationType, countersType, readType, commandSaid, causeTaken, isSilent, systemFrom}
 use Rattle.answers.specs.declared.Choice.{Choice}
 use Rattle.answers.specs.declared.Choice.the-variants.{Selected, Denied}
-use Rattle.answers.specs.Said.{Said, Lent, unsaid, outcomeWith, answeredFrom, answeredOn}
-use Rattle.answers.specs.Process.{Proposal, proposalOk, processCauseTaken, confirmationCause, processReply, toldBy, tableAfter, readUpdates, processFrom}
+use Rattle.answers.specs.Said.{Said, Lent, size, unsaid, outcomeWith, answeredFrom, answeredOn}
+use Rattle.answers.specs.Process.{Proposal, proposalOk, processCauseTaken, processReply, toldBy, tableAfter, readUpdates, processFrom}
 use Rattle.faithful.proofs.Theorem.{rising-whole}
 use Rattle.commands.specs.Entry.{proposalOf}
+use Rattle.answers.proofs.Proposals.{most-reply, whole-reply, length-confirmed}
 use Rattle.khuvelter.specs.Interface.{narrowed, isSet}
 use Rattle.khuvelter.specs.Calls.{Question, saidBy}
 use Rattle.khuvelter.specs.Calls.Question.{connectionStarted, system, process}
@@ -98,7 +99,7 @@ station-small t ca s g e =
 
 -- The report of at most 4,096 points, by at most thirty types.
 report-small : (limit : ℕ) → 25 ≤ limit → (types : List ℕ) (cause ca : ℕ) (ps : List Point) → length types ≤ 30 → Each Whole ps → length ps ≤ 4096
-    → length (report limit types cause ca ps) ≤ 3000000
+    → size (report limit types cause ca ps) ≤ 3000000
 report-small limit least types cause ca ps few w h =
     let l = length-report limit (omega arith) types cause ca ps w in
     let b = runs-small (λ kind. runOctets limit (pointOctets kind) (length (ofKind kind ps)))
@@ -189,21 +190,32 @@ unfolding addressesIn
 addresses-length m at zero = refl
 addresses-length m at (suc n) = ap suc (addresses-length m (at + addressOctets) n)
 
-requested-small : (ca : ℕ) (qs : List Point) → Each Whole qs → length (joined (requestedAsdu ca) qs) ≤ 21 * length qs
-unfolding joined Each
-requested-small ca [] w = omega arith
+-- An ASDU, and others after it.
+size-more : (a : Asdu) (as′ : List Asdu) → size (a ∷ as′) ≡ length (asduOctets a) + size as′
+unfolding wire joined
+size-more a as′ = length-append (asduOctets a) (wire as′)
+
+size-one : (a : Asdu) → size (a ∷ []) ≡ length (asduOctets a)
+size-one a = ap length (wire-one a)
+
+size-append : (xs ys : List Asdu) → size (xs ++ ys) ≡ size xs + size ys
+size-append xs ys = ap length (wire-append xs ys) ∙ length-append (wire xs) (wire ys)
+
+requested-small : (ca : ℕ) (qs : List Point) → Each Whole qs → size (map (requestedAsdu ca) qs) ≤ 21 * length qs
+unfolding Each
+requested-small ca [] w = let n = ap length wire-none in omega arith
 requested-small ca (q ∷ qs) w =
     let l = length-single 5 ca q (w .0) in
     let e = point-at-most (q .kind) in
     let ih = requested-small ca qs (w .1) in
-    let a = length-append (requestedAsdu ca q) (joined (requestedAsdu ca) qs) in
+    let a = size-more (requestedAsdu ca q) (map (requestedAsdu ca) qs) in
     omega arith
 
 -- ---- every system command
 
 -- An answer of at most 4,000,000 octets.
 pub record Small (s : Said) : Type 0 where
-  pub is-small : length (s .answer) ≤ 4000000
+  pub is-small : size (s .answer) ≤ 4000000
 
 pick-small : (b : Bool) (x y : Said) → Small x → Small y → Small (pick b x y)
 pick-small true x y p q = p
@@ -214,52 +226,59 @@ unfolding counterTypes
 two-types = omega arith
 
 module _ (m : List ℕ) (c : Command) (t : Table) (g : Good t) (w : WellRead (limitOf t) SystemCommands m c) (some-object : 0 < c .count) where
-  reply-small : (cause : ℕ) (negative : Bool) → length (confirmation c m cause negative) ≤ 249
+  reply-small : (cause : ℕ) (negative : Bool) → length (asduOctets (confirmation c m cause negative)) ≤ 249
   reply-small cause negative =
       let most = limit-most t (is-good t g) in
       let l = confirmation-fits (limitOf t) SystemCommands c m cause negative w some-object in
       omega arith
 
-  reported-small : (types : List ℕ) (cause : ℕ) (sel : Selection) → length types ≤ 30 → length (reported t c m types cause sel) ≤ 4000000
+  reported-small : (types : List ℕ) (cause : ℕ) (sel : Selection) → length types ≤ 30 → size (reported t c m types cause sel) ≤ 4000000
   unfolding reported
   reported-small types cause sel few =
-      let x : List ℕ = report (limitOf t) types cause (c .ca) (selected (selects sel) (pointsFor (c .ca) (t .stations))) in
+      let x : List Asdu = report (limitOf t) types cause (c .ca) (selected (selects sel) (pointsFor (c .ca) (t .stations))) in
       let f = few-selected (selects sel) (pointsFor (c .ca) (t .stations)) (few-for t (c .ca) g) in
       let r = report-small (limitOf t) (limit-least t (is-good t g)) types cause (c .ca) (selected (selects sel) (pointsFor (c .ca) (t .stations))) few (f .are-whole) (f .few) in
       let one = reply-small 7 false in
       let two = reply-small 10 false in
-      let l : length (confirmed c m ++ (x ++ terminated c m)) ≡ length (confirmed c m) + (length x + length (terminated c m)) =
-      length-append (confirmed c m) (x ++ terminated c m) ∙ ap (λ (n : ℕ). length (confirmed c m) + n) (length-append x (terminated c m)) in
+      let a = size-more (confirmed c m) (x ++ (terminated c m ∷ [])) in
+      let b = size-append x (terminated c m ∷ []) in
+      let d = size-one (terminated c m) in
       omega arith
 
-  pub answer-small : (types : List ℕ) (cause : ℕ) (x : Choice) → length types ≤ 30 → length (answerTo t c m types cause x) ≤ 4000000
+  pub answer-small : (types : List ℕ) (cause : ℕ) (x : Choice) → length types ≤ 30 → size (answerTo t c m types cause x) ≤ 4000000
   unfolding answerTo
-  answer-small types cause Denied few = let r = reply-small 7 true in omega arith
+  answer-small types cause Denied few =
+      let r = reply-small 7 true in
+      let d = size-one (denied c m) in
+      omega arith
   answer-small types cause (Selected sel) few = reported-small types cause sel few
 
-  pub interrogation-small : length (interrogationAnswer c m t) ≤ 4000000
+  pub interrogation-small : size (interrogationAnswer c m t) ≤ 4000000
   unfolding interrogationAnswer
   interrogation-small = answer-small (interrogationTypesOf t) (qualifierOf m) (interrogated (qualifierOf m)) (thirty t)
 
-  counter-small : length (counterAnswer c m t) ≤ 4000000
+  counter-small : size (counterAnswer c m t) ≤ 4000000
   unfolding counterAnswer
   counter-small = answer-small counterTypes (counterCause (qualifierOf m)) (chosen (qualifierOf m)) two-types
 
-  echo-small : (cause : ℕ) (negative : Bool) → length (echo c m cause negative) ≤ 249
+  echo-small : (cause : ℕ) (negative : Bool) → length (asduOctets (echo c m cause negative)) ≤ 249
   echo-small cause negative =
       let most = limit-most t (is-good t g) in
       let l = echo-fits (limitOf t) SystemCommands c m cause negative w in
       omega arith
 
-  read-small : (o : Option (List Point)) → AskedFew (c .count) o → length (readAnswer c m o) ≤ 4000000
+  read-small : (o : Option (List Point)) → AskedFew (c .count) o → size (readAnswer c m o) ≤ 4000000
   unfolding readAnswer AskedFew
-  read-small none f = let e = echo-small 7 true in omega arith
+  read-small none f =
+      let e = echo-small 7 true in
+      let d = size-one (echoed c m true) in
+      omega arith
   read-small (some qs) f =
       let e = echo-small 7 false in
       let r = requested-small (c .ca) qs (f .0) in
       let n = f .1 in
       let few = w .few in
-      let a = length-append (echo c m activationConfirmation false) (joined (requestedAsdu (c .ca)) qs) in
+      let a = size-more (echoed c m false) (map (requestedAsdu (c .ca)) qs) in
       omega arith
 
   -- What a command that is taken says.
@@ -269,14 +288,14 @@ module _ (m : List ℕ) (c : Command) (t : Table) (g : Good t) (w : WellRead (li
       let asked : AskedFew (c .count) (pointsRead c m t) =
       subst (λ (n : ℕ). AskedFew n (pointsRead c m t)) (addresses-length m headerOctets (c .count))
       (asked-few (addressesIn m headerOctets (c .count)) (pointsOf (stationOf (c .ca) (t .stations))) (few-own t (c .ca) g (stationOf (c .ca) (t .stations)) refl .are-whole)) in
-      let e : length (echo c m activationConfirmation false) ≤ 4000000 = let z = echo-small 7 false in omega arith in
+      let z = echo-small 7 false in
+      let d = size-one (echoed c m false) in
       pick-small (eqb (c .kind) interrogationType) _ _ (record { is-small = interrogation-small })
       (pick-small (eqb (c .kind) countersType) _ _ (record { is-small = counter-small })
-      (pick-small (eqb (c .kind) readType) _ _ (record { is-small = read-small _ asked })
-      (pick-small (eqb (c .kind) clockType) _ _ (record { is-small = e }) (record { is-small = e }))))
+      (pick-small (eqb (c .kind) readType) _ _ (record { is-small = read-small _ asked }) (record { is-small = omega arith })))
 
 unsaid-small : (o : Outcome) (t : Table) (clock : List ℕ) → Small (unsaid o t clock)
-unsaid-small o t clock = record { is-small = omega arith }
+unsaid-small o t clock = record { is-small = let n = ap length wire-none in omega arith }
 
 -- What any system command says: at most 4,000,000 octets.
 system-small : (clock m : List ℕ) (t : Table) → Good t → (r : Reading) → readAs (limitOf t) SystemCommands m ≡ r → Small (systemFrom clock m r t)
@@ -294,13 +313,6 @@ system-small clock m t g (Parsed c) e = by-count (eqb (c .count) 0) refl
         (unsaid-small Silent t clock)
         (command-small m c t g (parsed-is (limitOf t) SystemCommands m c e) (ne-zero (c .count) (eqb-false _ _ n)) clock)
 
--- The reply octets of a proposal that is not bad.
-proposal-few : (limit kind : ℕ) (objects : List ℕ) → proposalOk limit kind objects ≡ true → length objects ≤ limit
-unfolding proposalOk
-proposal-few limit kind objects e =
-    let l : length objects ≤ limit - (controlOctets + headerOctets) = leb-true _ _ (both _ _ (both _ _ e .1) .0) in
-    omega arith
-
 -- What any process command says to the answer memory.
 process-small : (clock : List ℕ) (p : Proposal) (t : Table) → Good t → (r : Reading) → Small (processFrom clock p r t)
 unfolding processFrom
@@ -311,17 +323,18 @@ process-small clock p t g (Parsed c) =
     pick-small (processCauseTaken (c .cause)) _ _ (by-proposal (proposalOk (limitOf t) (p .kind) (p .objects)) refl) (unsaid-small Silent t clock)
   where
     by-proposal : (b : Bool) → proposalOk (limitOf t) (p .kind) (p .objects) ≡ b
-        → Small (pick b (record { outcome = Done; answer = processReply c p; told = toldBy t (readUpdates p); after = tableAfter t (readUpdates p); clock = clock }) (unsaid BadProposal t clock))
+        → Small (pick b (record { outcome = Done; answer = processReply c p ∷ []; told = toldBy t (readUpdates p); after = tableAfter t (readUpdates p); clock = clock }) (unsaid BadProposal t clock))
     by-proposal true e =
-        let few = proposal-few (limitOf t) (p .kind) (p .objects) e in
+        let few = most-reply (limitOf t) (p .kind) (p .objects) e in
         let most = limit-most t (is-good t g) in
-        let l = length-reply c (p .kind) (length (p .objects) / (addressOctets + elementOctets (p .kind))) (confirmationCause (c .cause)) (p .negative) (p .objects) in
+        let l = length-confirmed c p (whole-reply (limitOf t) (p .kind) (p .objects) e) in
+        let d = size-one (processReply c p) in
         record { is-small = omega arith }
     by-proposal false e = unsaid-small BadProposal t clock
 
 -- What any question says to a good table.
 pub question-small : (q : Question) (clock : List ℕ) (t : Table) → Good t → Small (saidBy q clock t)
-question-small connectionStarted clock t g = record { is-small = let l = length-end (stationCommonAddress (t .stations)) in omega arith }
+question-small connectionStarted clock t g = record { is-small = let l = length-end (stationCommonAddress (t .stations)) in let d = size-one (endOfInitializationAsdu (stationCommonAddress (t .stations))) in omega arith }
 question-small (system m) clock t g = system-small clock m t g _ refl
 question-small (process m n k r us) clock t g = process-small clock (proposalOf (isSet n) k r us) t g _
 
@@ -336,4 +349,4 @@ small-whole f l o s = of-parsed (parse (l .table)) refl
 
     of-parsed : (x : Option Table) → parse (l .table) ≡ x → narrowed (answeredFrom f l x .octets) ≡ answeredFrom f l x .octets
     of-parsed none e = refl
-    of-parsed (some t) e = by-test (isDone (outcomeWith (f t) l)) (length (f t .answer)) (s t (good-is t (parse-sound (l .table) t o e .0)) .is-small)
+    of-parsed (some t) e = by-test (isDone (outcomeWith (f t) l)) (size (f t .answer)) (s t (good-is t (parse-sound (l .table) t o e .0)) .is-small)

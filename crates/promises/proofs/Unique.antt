@@ -7,7 +7,8 @@ use Rattle.limits.specs.declared.outcome.Outcome.{Outcome}
 use Rattle.table.specs.Table.{Table}
 use Rattle.registry.specs.declared.Reply.{Reply}
 use Rattle.registry.specs.declared.StationShare.{StationShare}
-use Rattle.registry.specs.Effect.{Effect, replyOn, memoryOn}
+use Rattle.registry.specs.Effect.{Effect}
+use Rattle.replies.specs.Replies.{Replies}
 use Rattle.registry.specs.Opening.{openOutcome, openedMemory}
 use Rattle.registry.specs.Registry.{shareOn}
 use Rattle.answers.specs.declared.Answered.{Answered}
@@ -21,7 +22,7 @@ same p q = p ∙ sym q
 
 -- Registration of one point and of a batch, removal of one and of all: reply and table.
 pub one-table-entry : (f : Table → Effect) (m : List ℕ) (r r′ : Reply) (n n′ : List ℕ)
-    → (r ≡ replyOn f m) × (n ≡ memoryOn f m) → (r′ ≡ replyOn f m) × (n′ ≡ memoryOn f m) → (r ≡ r′) × (n ≡ n′)
+    → Replies f m r n → Replies f m r′ n′ → (r ≡ r′) × (n ≡ n′)
 one-table-entry f m r r′ n n′ p q = (same (p .0) (q .0), same (p .1) (q .1))
 
 -- Opening: outcome and memory.

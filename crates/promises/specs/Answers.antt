@@ -15,7 +15,8 @@ use Rattle.table.specs.Table.{Table}
 use Rattle.table.specs.Memory.{parse}
 use Rattle.report.specs.Selection.{among}
 use Rattle.registry.specs.declared.Reply.{Reply as TableReply}
-use Rattle.registry.specs.Effect.{Effect, replyOn, memoryOn}
+use Rattle.registry.specs.Effect.{Effect}
+use Rattle.replies.specs.Replies.{Replies}
 use Rattle.registry.specs.Registry.{shareOn}
 use Rattle.registry.specs.Opening.{planned, tableOctets, openOutcome, openedMemory}
 use Rattle.answers.specs.declared.Answered.{Answered}
@@ -80,7 +81,7 @@ pub record AnAnswerAndAnEnd : Type 0 where
   -- The share of a station: 3 or 12, and no other number.
   pub share : (ca : ℕ) (m : List ℕ) (r : Share) → r ≡ flatShare (shareOn ca m) → ShareRefusal r
   -- Inside it: `register_point`, `register_points`, `unregister_point`, `unregister_all`, whatever their effect f on the table;
-  pub table-entry : (f : Table → Effect) (m : List ℕ) (r : TableReply) (n : List ℕ) → (r ≡ replyOn f m) × (n ≡ memoryOn f m)
+  pub table-entry : (f : Table → Effect) (m : List ℕ) (r : TableReply) (n : List ℕ) → Replies f m r n
       → Refusal (numberOf (r .outcome)) 0 0 (tableAlone m) (tableAlone n)
   -- `open`;
   pub open-entry : (k : ℕ) (plan m : List ℕ) (r : Outcome) (n : List ℕ) → (r ≡ openOutcome k plan m) × (n ≡ openedMemory k plan m)

@@ -3,10 +3,10 @@
 use Prim.Native.Nat.{ℕ, zero, suc, _/_, _%_}
 use mathlib.Core.Path.{_≡_}
 use mathlib.Core.List.{List, [], _∷_, _++_, map}
-use lib.ListN.{length, replicate}
+use lib.ListN.{length, drop, replicate}
 use Rattle.report.specs.Packing.{flat, Each}
 use Rattle.registry.specs.Opening.{planned, tableOctets, openedMemory}
-use Rattle.answers.specs.Said.{Lent, lent, fronted}
+use Rattle.answers.specs.Said.{Lent, lent}
 use Rattle.khuvelter.specs.Calls.{Call, tableAlone, replyTo, leftBy}
 use Rattle.khuvelter.specs.Calls.Change.{registerPoint, unregisterPoint}
 use Rattle.khuvelter.specs.Calls.Question.{system}
@@ -37,7 +37,7 @@ unfoldable pub Comes : List ℕ → List Line → Type 0
 Comes m [] = Unit
 Comes m (x ∷ xs) =
     (replyTo (x .call) (lentFor m x) ≡ record { number = x .number; place = 0; octets = length (flat (x .asdus)); spontaneous = 0 })
-    × (leftBy (x .call) (lentFor m x) .answer ≡ fronted (flat (x .asdus)) (replicate (x .room) 0xEE))
+    × (leftBy (x .call) (lentFor m x) .answer ≡ flat (x .asdus) ++ drop (length (flat (x .asdus))) (replicate (x .room) 0xEE))
     × (map length (x .asdus) ≡ x .sizes)
     × Comes (leftBy (x .call) (lentFor m x) .table) xs
 

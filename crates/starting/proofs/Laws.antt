@@ -1,7 +1,7 @@
 -- The common address that the code finds is the table's, and the ways out of the entry. Assumes nothing.
-use mathlib.Core.Path.{_≡_, refl, sym, ap, _∙_}
-use mathlib.Core.List.{List, []}
-use mathlib.Core.Bool.{true, false}
+use mathlib.Core.Path.{_≡_, refl, ap, _∙_}
+use mathlib.Core.List.{List, [], _∷_}
+use mathlib.Core.Bool.{true}
 use Prim.Native.Nat.{ℕ, zero, suc, _+_, _*_, _-_, _≤_, _<_}
 use native.Mathlib.Omega.{arith}
 use lib.ListN.{length}
@@ -13,13 +13,14 @@ use Rattle.octets.specs.Over.{over}
 use Rattle.layout.specs.Layout.{headSize, placeSize, stationSize, stationsIn, stationsFrom, caAt, heldAt}
 use Rattle.table.specs.Memory.{pointsAt, stationsAt, tableOf, wellFormed}
 use Rattle.table.proofs.Points.{length-pointsAt}
-use Rattle.table.proofs.Parse.{passed, printed}
+use Rattle.asdu.specs.Header.{Asdu, asduOctets}
+use Rattle.asdu.specs.Puts.{Puts}
 use Rattle.report.specs.Single.{endOfInitializationAsdu, stationCommonAddress}
 use Rattle.report.proofs.Single.{length-end}
 use Rattle.limits.specs.declared.outcome.Outcome.the-variants.{AnswerShort}
 use Rattle.answers.specs.Said.{lent, Leaves, asItIs, nothing, given}
 use Rattle.answers.specs.Start.{startSaid}
-use Rattle.answers.proofs.Ends.{front-is, ends-short, ends-done}
+use Rattle.answers.proofs.Ends.{one-nothing, one-all, ends-says}
 use Rattle.starting.specs.Starting.{commonAddressAt}
 
 -- ---- the turns of the loop over the stations
@@ -56,15 +57,21 @@ common-address-law m = address-is m headSize (stationsFrom m) (stationsIn m)
 
 -- ---- the ways out
 
-module _ (t a : List ℕ) (w : wellFormed t ≡ true) where
+module _ (t a : List ℕ) (o : Octets t) (w : wellFormed t ≡ true) where
+  abbrev end : Asdu
+  end = endOfInitializationAsdu (stationCommonAddress (tableOf t .stations))
+
   -- Fewer than ten octets of room: 4.
   pub start-short : length a < 10 → Leaves asItIs (startSaid []) (lent t [] a []) (nothing AnswerShort) (lent t [] a [])
-  start-short h = let n = length-end (stationCommonAddress (tableOf t .stations)) in ends-short (startSaid []) (lent t [] a []) w refl refl (omega arith)
+  start-short h =
+      let n = length-end (stationCommonAddress (tableOf t .stations)) in
+      ends-says (startSaid []) (lent t [] a []) w o (end ∷ []) [] refl (nothing AnswerShort) [] a (one-nothing end a (omega arith)) refl
 
   -- Ten octets at the front.
-  pub start-done : Octets t → 10 ≤ length a → (ca : ℕ) (a′ : List ℕ) → ca ≡ commonAddressAt t (stationsFrom t) (stationsIn t)
-      → a′ ≡ over a 0 (endOfInitializationAsdu ca) → Leaves asItIs (startSaid []) (lent t [] a []) (given 10) (lent t [] a′ [])
-  start-done o h ca a′ c e =
-      let s = e ∙ ap (λ (x : ℕ). over a 0 (endOfInitializationAsdu x)) (c ∙ common-address-law t) ∙ front-is a _ in
-      let n = length-end (stationCommonAddress (tableOf t .stations)) in
-      ends-done (startSaid []) (lent t [] a []) w 10 (lent t [] a′ []) refl refl (sym n) h (λ j. lent (printed t o (passed t w) j) [] (s j) [])
+  pub start-done : 10 ≤ length a → (ca n : ℕ) (a′ : List ℕ) → ca ≡ commonAddressAt t (stationsFrom t) (stationsIn t)
+      → Puts (asduOctets (endOfInitializationAsdu ca)) a n a′ → Leaves asItIs (startSaid []) (lent t [] a []) (given n) (lent t [] a′ [])
+  start-done h ca n a′ c p =
+      let x = ap (λ (y : ℕ). asduOctets (endOfInitializationAsdu y)) (c ∙ common-address-law t) in
+      let l = length-end (stationCommonAddress (tableOf t .stations)) in
+      ends-says (startSaid []) (lent t [] a []) w o (end ∷ []) [] refl (given n) [] a′
+      (one-all end a n a′ (omega arith) (p .0 ∙ ap length x) (p .1 ∙ ap (over a 0) x)) refl

@@ -11,7 +11,8 @@ ghost use mathlib.Core.Path.{_≡_};
 ghost use mathlib.Core.List.{[]};
 ghost use Prim.Native.Nat.{_+_, _*_, _≤_, _<_};
 ghost use lib.ListN.{length};
-ghost use Rattle.octets.specs.Over.{over};
+ghost use Rattle.asdu.specs.Header.{asduOctets};
+ghost use Rattle.asdu.specs.Puts.{Puts};
 ghost use Rattle.layout.specs.Layout.{stationSize};
 ghost use Rattle.report.specs.Single.{endOfInitializationAsdu};
 ghost use Rattle.answers.specs.Said.{Leaves, asItIs, lent};
@@ -42,9 +43,9 @@ fn station_common_address(m: &[u8], at: usize, n: usize) -> usize
 }
 
 // Writes the end of initialisation at the front of `out`: type 70, cause 4, IOA 0, octet 0.
-fn end_of_initialization_asdu(out: &mut [u8], ca: usize)
-    requires { ⌜ (ca < 65536) × (length (endOfInitializationAsdu ca) ≤ length (now out)) ⌝ }
-    ensures { λ _. ⌜ now (out .exit) ≡ over (now (out .entry)) 0 (endOfInitializationAsdu ca) ⌝ }
+fn end_of_initialization_asdu(out: &mut [u8], ca: usize) -> usize
+    requires { ⌜ (ca < 65536) × (length (asduOctets (endOfInitializationAsdu ca)) ≤ length (now out)) ⌝ }
+    ensures { λ r. ⌜ Puts (asduOctets (endOfInitializationAsdu ca)) (now (out .entry)) r (now (out .exit)) ⌝ }
 {
     let h = Header {
         kind: M_EI_NA_1,
@@ -56,7 +57,7 @@ fn end_of_initialization_asdu(out: &mut [u8], ca: usize)
         ca: ca as u16,
     };
     let object = [0u8; OBJECT_OCTETS];
-    asdu::header::put_asdu(out, h, &object);
+    asdu::header::put_asdu(out, h, &object)
 }
 
 // The start of a connection: 3, then 4, else the end of initialisation, of the smallest common address with a point, or of 0.
@@ -71,6 +72,5 @@ pub fn connection_started(table: &[u8], answer: &mut [u8]) -> Answered
     }
     let first = layout::station_at(table, 0);
     let ca = station_common_address(table, first, layout::stations_of(table));
-    end_of_initialization_asdu(answer, ca);
-    Answered::given(END_OF_INITIALIZATION_OCTETS)
+    Answered::given(end_of_initialization_asdu(answer, ca))
 }

@@ -26,9 +26,8 @@ use Rattle.seats.specs.Seats.{seatAt}
 use Rattle.seats.specs.Find.{findAt}
 use Rattle.seats.proofs.Laws.{Seated, Seen, seat-law, absent-law}
 use Rattle.seats.proofs.Halving.{HeldAt, held-law, missing-law}
-use Rattle.answers.specs.Process.{Update, updated, updateOf}
+use Rattle.answers.specs.Process.{Update, updated, updateOf, revalued}
 use Rattle.updates.specs.declared.Target.the-variants.{Place, Skipped}
-use Rattle.updates.specs.Values.{revalued}
 use Rattle.updates.specs.Updates.{targetOn, targetIn, targetAt}
 
 -- ---- bounds of what is found in a well-formed memory

@@ -18,18 +18,18 @@ use Rattle.octets.specs.Over.{over}
 use Rattle.octets.specs.Number.{twelve, zeros}
 use Rattle.octets.proofs.Laws.{over-at}
 use Rattle.octets.proofs.At.{zeros-are, at-here}
+use Rattle.layout.specs.Layout.{placeSize}
 use Rattle.model.specs.declared.Point.{Point}
 use Rattle.model.specs.Place.{pointAt, placeOf, pointOk, valid}
 use Rattle.model.specs.Request.{element}
 use Rattle.model.proofs.Requests.{length-element}
 use Rattle.table.specs.Table.{Station, Table, held, rising, placesOf, bodies, eight, entries, head, image}
-use Rattle.table.specs.Change.{withStations, withPoints, changed, seekIn, pointIn}
+use Rattle.table.specs.Change.{withPoints, withStations, changed, seekIn, pointIn}
 use Rattle.table.proofs.Points.{gets, gets-drop, at-drop, place-read, length-places}
 use Rattle.table.proofs.Stations.{length-bodies}
 use Rattle.table.proofs.Cut.{places-at, held-at, image-at}
 use Rattle.table.proofs.Change.{Found, stations-split}
-use Rattle.answers.specs.Process.{replaceIn}
-use Rattle.updates.specs.Values.{revalued}
+use Rattle.answers.specs.Process.{revalued, replaceIn}
 
 -- ---- a place, cut at its element
 
@@ -172,29 +172,26 @@ read-at H B P L Q D at e =
 
 module _ (t : Table) (before : List Station) (s : Station) (behind : List Station) (n : ℕ) (rest : List ℕ) (ioa : ℕ) (q : Point) (v : List ℕ)
     (count : total held (before ++ (s ∷ behind)) ≡ n) (w : Parted ioa (s .points) q) (is-ioa : q .ioa ≡ ioa) (long : length v ≡ 12) where
-  abbrev k : ℕ
-  k = t .capacity
-
   size : ℕ
   size = pointOctets (q .kind)
 
   -- what lies after the station's places
   rear : List ℕ
-  rear = bodies behind ++ (replicate (48 * (k - n)) 0 ++ (entries before ++ (eight (s .ca) (s .reservation) (s .ceiling) (held s) ++ (entries behind ++ rest))))
+  rear = bodies behind ++ (replicate (placeSize * (t .capacity - n)) 0 ++ (entries before ++ (eight (s .ca) (s .reservation) (s .ceiling) (held s) ++ (entries behind ++ rest))))
 
   cut-old : image (withStations (before ++ (s ∷ behind)) t) ++ rest
-      ≡ head (t .settings) k (length before + suc (length behind)) n ++ (bodies before
+      ≡ head (t .settings) (t .capacity) (length before + suc (length behind)) n ++ (bodies before
       ++ ((placesOf (s .ca) (w .below) ++ ((ten (s .ca) q ++ (take size (q .value) ++ after size)) ++ placesOf (s .ca) (w .above))) ++ rear))
   unfolding size rear
   cut-old =
       let S : ℕ = length before + suc (length behind) in
       let ps = ap (placesOf (s .ca)) (w .split) ∙ places-at (s .ca) (w .below) q (w .above) in
       image-at t before s behind n rest count
-      ∙ ap (λ (l : List ℕ). head (t .settings) k S n ++ (bodies before ++ (l ++ rear))) ps
-      ∙ ap (λ (l : List ℕ). head (t .settings) k S n ++ (bodies before ++ ((placesOf (s .ca) (w .below) ++ (l ++ placesOf (s .ca) (w .above))) ++ rear))) (old-place (s .ca) q (w .is-ok))
+      ∙ ap (λ (l : List ℕ). head (t .settings) (t .capacity) S n ++ (bodies before ++ (l ++ rear))) ps
+      ∙ ap (λ (l : List ℕ). head (t .settings) (t .capacity) S n ++ (bodies before ++ ((placesOf (s .ca) (w .below) ++ (l ++ placesOf (s .ca) (w .above))) ++ rear))) (old-place (s .ca) q (w .is-ok))
 
   cut-new : image (withStations (before ++ (withPoints (replaceIn (revalued q v)) s ∷ behind)) t) ++ rest
-      ≡ head (t .settings) k (length before + suc (length behind)) n ++ (bodies before
+      ≡ head (t .settings) (t .capacity) (length before + suc (length behind)) n ++ (bodies before
       ++ ((placesOf (s .ca) (w .below) ++ ((ten (s .ca) q ++ (take size v ++ after size)) ++ placesOf (s .ca) (w .above))) ++ rear))
   unfolding size rear
   cut-new =
@@ -208,9 +205,9 @@ module _ (t : Table) (before : List Station) (s : Station) (behind : List Statio
       let b : total held (before ++ (s′ ∷ behind)) ≡ total held before + (length (replaceIn p (s .points)) + total held behind) = held-at before s′ behind in
       let ps = ap (placesOf (s .ca)) put ∙ places-at (s .ca) (w .below) p (w .above) in
       image-at t before s′ behind n rest (omega arith)
-      ∙ (λ j. head (t .settings) k S n ++ (bodies before ++ (ps j ++ (bodies behind ++ (replicate (48 * (k - n)) 0
+      ∙ (λ j. head (t .settings) (t .capacity) S n ++ (bodies before ++ (ps j ++ (bodies behind ++ (replicate (placeSize * (t .capacity - n)) 0
       ++ (entries before ++ (eight (s .ca) (s .reservation) (s .ceiling) (same j) ++ (entries behind ++ rest))))))))
-      ∙ ap (λ (l : List ℕ). head (t .settings) k S n ++ (bodies before ++ ((placesOf (s .ca) (w .below) ++ (l ++ placesOf (s .ca) (w .above))) ++ rear))) (new-place (s .ca) q v long)
+      ∙ ap (λ (l : List ℕ). head (t .settings) (t .capacity) S n ++ (bodies before ++ ((placesOf (s .ca) (w .below) ++ (l ++ placesOf (s .ca) (w .above))) ++ rear))) (new-place (s .ca) q v long)
 
   stored-cut : (at : ℕ) → at ≡ 64 + 48 * (total held before + seekIn ioa (s .points))
       → over (image (withStations (before ++ (s ∷ behind)) t) ++ rest) (at + 10) (take size v)
@@ -226,7 +223,7 @@ module _ (t : Table) (before : List Station) (s : Station) (behind : List Statio
       let lp : length (placesOf (s .ca) (w .below)) ≡ 48 * length (w .below) = length-places (s .ca) (w .below) in
       let so : seekIn ioa (s .points) ≡ length (w .below) = w .sought in
       ap (λ (l : List ℕ). over l (at + 10) (take size v)) cut-old
-      ∙ write-at (head (t .settings) k S n) (bodies before) (placesOf (s .ca) (w .below)) (ten (s .ca) q) (take size (q .value)) (after size) (placesOf (s .ca) (w .above)) rear
+      ∙ write-at (head (t .settings) (t .capacity) S n) (bodies before) (placesOf (s .ca) (w .below)) (ten (s .ca) q) (take size (q .value)) (after size) (placesOf (s .ca) (w .above)) rear
       (take size v) (at + 10) (omega arith) (omega arith)
       ∙ sym cut-new
 
@@ -244,7 +241,7 @@ module _ (t : Table) (before : List Station) (s : Station) (behind : List Statio
       let so : seekIn ioa (s .points) ≡ length (w .below) = w .sought in
       let d : drop at M ≡ placeOf (s .ca) p ++ (Q ++ rear) =
       ap (drop at) cut-new
-      ∙ read-at (head (t .settings) k S n) (bodies before) (placesOf (s .ca) (w .below)) (ten (s .ca) q ++ (take size v ++ after size)) Q rear at (omega arith)
+      ∙ read-at (head (t .settings) (t .capacity) S n) (bodies before) (placesOf (s .ca) (w .below)) (ten (s .ca) q ++ (take size v ++ after size)) Q rear at (omega arith)
       ∙ ap (λ (l : List ℕ). l ++ (Q ++ rear)) (sym (new-place (s .ca) q v long)) in
       at-drop M at
       ∙ ap (λ (l : List ℕ). pointAt l 0) d
@@ -258,7 +255,6 @@ pub stored-image : (t : Table) (rest : List ℕ) (ca ioa : ℕ) (s : Station) (f
     × (pointAt (image (changed t ca (replaceIn (revalued q v))) ++ rest) at ≡ revalued q v)
 unfolding changed size
 stored-image t rest ca ioa s f q v at r e i l p =
-    let K : ℕ = t .capacity in
     let count = ap (total held) (sym (f .split)) in
     let w = parted ioa 0 (s .points) q r e in (
       (λ j. over (image (withStations (f .split j) t) ++ rest) (at + 10) (take (pointOctets (q .kind)) v))

@@ -14,9 +14,10 @@ use Rattle.model.specs.declared.Point.{Point}
 use Rattle.model.proofs.Requests.{length-element}
 use Rattle.table.proofs.Points.{gets, gets-drop}
 use Rattle.asdu.specs.Cause.{spontaneous}
+use Rattle.asdu.proofs.Laws.{wire-one}
 use Rattle.report.proofs.Single.{length-single}
-use Rattle.answers.specs.Process.{Update, toldOf}
-use Rattle.updates.specs.Values.{revalued}
+use Rattle.answers.specs.Said.{size}
+use Rattle.answers.specs.Process.{Update, toldOf, revalued}
 
 -- twelve octets spelt out are a part
 twelve-part : (m : List ℕ) (at : ℕ) → at + 12 ≤ length m → twelve m at ≡ take 12 (drop at m)
@@ -31,6 +32,6 @@ pub element-part : (m : List ℕ) (at e : ℕ) → at + 12 ≤ length m → e �
 element-part m at e h k = sym (take-take e 12 (drop at m) k) ∙ ap (take e) (sym (twelve-part m at h))
 
 -- An update that is not skipped tells nine octets and the element.
-pub length-told : (u : Update) (q : Point) → length (u .value) ≡ 12 → length (toldOf u (some (revalued q (u .value)))) ≡ 9 + pointOctets (q .kind)
+pub length-told : (u : Update) (q : Point) → length (u .value) ≡ 12 → size (toldOf u (some (revalued q (u .value)))) ≡ 9 + pointOctets (q .kind)
 unfolding toldOf
-length-told u q l = length-single spontaneous (u .ca) (revalued q (u .value)) (length-element (u .value) (pointOctets (q .kind)) l (point-at-most (q .kind)))
+length-told u q l = ap length (wire-one _) ∙ length-single spontaneous (u .ca) (revalued q (u .value)) (length-element (u .value) (pointOctets (q .kind)) l (point-at-most (q .kind)))

@@ -5,7 +5,6 @@ use mathlib.Core.Bool.{true}
 use mathlib.Core.Option.{Option, some}
 use Prim.Native.Nat.{ℕ, suc, _+_, _*_, _-_, _≤_, _<_}
 use native.Mathlib.Omega.{arith}
-use native.Mathlib.Nat.{zero-add}
 use lib.ListN.{length, take, drop, getD, length-append, take-append-drop}
 use lib.Seq.{drop-append-seam}
 use Rattle.limits.specs.Test.{total}
@@ -21,12 +20,14 @@ use Rattle.table.proofs.Parse.{Good, is-good, passed, printed, holds, parsed, p
 use Rattle.octets.proofs.Log.{Log, log-start, log-step, log-room, log-end}
 use Rattle.registry.specs.Effect.{holding}
 use Rattle.asdu.specs.Cause.{spontaneous}
+use Rattle.asdu.specs.Header.{asduOctets, wire}
+use Rattle.asdu.proofs.Laws.{wire-none, wire-one, wire-append}
 use Rattle.report.specs.Single.{single}
-use Rattle.answers.specs.Process.{Update, updateOctets, updateTypeOffset, updateValueOffset, updateAt, updatesAt, updateOf, tableWith, tableAfter, toldOf, toldBy}
+use Rattle.answers.specs.Said.{size}
+use Rattle.answers.specs.Process.{Update, updateOctets, updateTypeOffset, updateValueOffset, updateAt, updatesAt, updateOf, tableWith, tableAfter, toldOf, toldBy, revalued}
 use Rattle.answers.proofs.Values.{point-in}
 use Rattle.answers.proofs.Quiet.{updates-whole, update-still}
 use Rattle.updates.specs.declared.Target.the-variants.{Place, Skipped}
-use Rattle.updates.specs.Values.{revalued}
 use Rattle.updates.specs.Updates.{targetAt, stored, toldOne, leftOne, toldByAll, leftByAll, Applies}
 use Rattle.updates.proofs.Meant.{target-place, target-skipped}
 use Rattle.updates.proofs.Stored.{stored-image}
@@ -39,7 +40,7 @@ module _ (m us : List ℕ) (at : ℕ) (o : Octets m) (w : wellFormed m ≡ true)
   -- Skipped: nothing is told, and the memory is as it was.
   pub skipped-told : targetAt m (updateAt us at) ≡ Skipped → toldOne m us at ≡ []
   unfolding toldOf
-  skipped-told e = ap (toldOf (updateAt us at)) (target-skipped m (updateAt us at) o w e)
+  skipped-told e = ap (λ (x : Option Point). wire (toldOf (updateAt us at) x)) (target-skipped m (updateAt us at) o w e) ∙ wire-none
 
   pub skipped-left : targetAt m (updateAt us at) ≡ Skipped → m ≡ leftOne m us at
   unfolding tableWith
@@ -58,7 +59,7 @@ module _ (m us : List ℕ) (at : ℕ) (o : Octets m) (w : wellFormed m ≡ true)
     pub place-length : length (toldOne m us at) ≡ 9 + pointOctets (getD us (at + updateTypeOffset) 0)
     place-length =
         let d = target-place m (updateAt us at) o w place e in
-        ap (λ (x : Option Point). length (toldOf (updateAt us at) x)) (d .update)
+        ap (λ (x : Option Point). size (toldOf (updateAt us at) x)) (d .update)
         ∙ length-told (updateAt us at) (pointAt m place) refl
         ∙ ap (λ (k : ℕ). 9 + pointOctets k) (d .is-kind)
 
@@ -82,11 +83,13 @@ module _ (m us : List ℕ) (at : ℕ) (o : Octets m) (w : wellFormed m ≡ true)
     pub place-left : at + updateOctets ≤ length us → stored m place (getD us (at + updateTypeOffset) 0) us (at + updateValueOffset) ≡ leftOne m us at
     place-left h = stored-both h .0
 
-    pub place-told : at + updateOctets ≤ length us → single spontaneous (two us at) (pointAt (stored m place (getD us (at + updateTypeOffset) 0) us (at + updateValueOffset)) place) ≡ toldOne m us at
+    pub place-told : at + updateOctets ≤ length us
+        → asduOctets (single spontaneous (two us at) (pointAt (stored m place (getD us (at + updateTypeOffset) 0) us (at + updateValueOffset)) place)) ≡ toldOne m us at
     unfolding toldOf
     place-told h =
         let d = target-place m (updateAt us at) o w place e in
-        ap (single spontaneous (two us at)) (stored-both h .1) ∙ sym (ap (toldOf (updateAt us at)) (d .update))
+        ap (λ (p : Point). asduOctets (single spontaneous (two us at) p)) (stored-both h .1)
+        ∙ sym (ap (λ (x : Option Point). wire (toldOf (updateAt us at) x)) (d .update) ∙ wire-one _)
 
 -- ---- the loop that sizes
 
@@ -114,7 +117,7 @@ unfolding octetsTold total
 size-end m us at left h = ap (octetsTold (tableOf m)) (updates-end us at left h)
 
 -- What was added up is the length of all that will be told.
-pub size-all : (m us : List ℕ) (n : ℕ) → length (toldBy (tableOf m) (updatesAt us 0 n)) ≡ sizeLeft m us 0 n
+pub size-all : (m us : List ℕ) (n : ℕ) → length (toldByAll m us 0 n) ≡ sizeLeft m us 0 n
 size-all m us n = length-told-by (tableOf m) (updatesAt us 0 n) (updates-whole us 0 n)
 
 -- ---- the loop that stores and tells
@@ -143,8 +146,9 @@ turned m us at left m′ o w h e =
           ∙ ap (λ (y : List ℕ). image (tableAfter t′ (updatesAt us (at + updateOctets) (left - 1))) ++ y) (sym past)
           ∙ ap (λ (x : Table). holding m′ x (tableAfter x (updatesAt us (at + updateOctets) (left - 1)))) (sym (f .1));
       tells =
-          ap (toldBy t) s
-          ∙ ap (λ (x : Table). toldOne m us at ++ toldBy x (updatesAt us (at + updateOctets) (left - 1))) (sym (f .1));
+          ap (λ (x : List Update). wire (toldBy t x)) s
+          ∙ wire-append _ _
+          ∙ ap (λ (x : Table). toldOne m us at ++ wire (toldBy x (updatesAt us (at + updateOctets) (left - 1)))) (sym (f .1));
     }
 
 -- With none left the memory is as it was, and nothing is told.
@@ -154,7 +158,7 @@ left-end m us at left o w h = printed m o (passed m w) ∙ ap (λ (x : List Upda
 
 pub told-end : (m us : List ℕ) (at left : ℕ) → left ≤ 0 → toldByAll m us at left ≡ []
 unfolding toldBy
-told-end m us at left h = ap (toldBy (tableOf m)) (updates-end us at left h)
+told-end m us at left h = ap (λ (x : List Update). wire (toldBy (tableOf m) x)) (updates-end us at left h) ∙ wire-none
 
 -- Where the loop stands: the memory holds a table, what is left to do makes of it what all updates make of the first, and so with what is told.
 pub record Going (m₀ us : List ℕ) (n : ℕ) (s₀ m s : List ℕ) (o at left : ℕ) : Type 0 where
@@ -204,7 +208,7 @@ module _ (m₀ us : List ℕ) (n : ℕ) (s₀ m s : List ℕ) (o at left : ℕ) 
   going-end h =
       let all : List ℕ = toldByAll m₀ us 0 n in
       let e = log-end s₀ all s 0 o (subst (λ (x : List ℕ). Log s₀ 0 all s o x) (told-end m us at left h) (g .log)) (omega arith) in
-      record { reach = e .0; memory = left-end m us at left (g .octets) (g .formed) h ∙ sym (g .leaves); output = e .1 }
+      record { memory = left-end m us at left (g .octets) (g .formed) h ∙ sym (g .leaves); output = e }
 
 -- Nothing written leaves a memory as it was.
 pub over-none : (m : List ℕ) (o : ℕ) → m ≡ over m o []

@@ -16,8 +16,8 @@ use Rattle.table.specs.Change.{stationOf, changed, pointIn}
 use Rattle.table.proofs.Change.{changed-station, other-station}
 use Rattle.report.specs.Packing.{Each}
 use Rattle.report.specs.Order.{pointsOf}
-use Rattle.answers.specs.Process.{Update, updated, replaceIn, updateOf, tableWith, tableAfter}
-use Rattle.updates.specs.Values.{addressed, revalued, means, renewedBy, renewed, each}
+use Rattle.answers.specs.Process.{Update, updated, replaceIn, updateOf, tableWith, tableAfter, addressed, revalued}
+use Rattle.updates.specs.Values.{means, renewedBy, renewed, each}
 
 -- ---- points found after one was replaced
 

@@ -9,6 +9,8 @@ use Rattle.limits.specs.Test.{pick}
 use Rattle.limits.specs.Size.{headerOctets, addressOctets, pointOctets}
 use Rattle.octets.specs.Over.{over}
 use Rattle.layout.specs.Layout.{valueOffset, valueSize}
+use Rattle.asdu.specs.Header.{wire}
+use Rattle.asdu.specs.Puts.{PutsAt}
 use Rattle.seats.specs.declared.Seat.{Seat}
 use Rattle.seats.specs.declared.Seat.the-variants.{Here, NotPlanned}
 use Rattle.seats.specs.declared.Spot.{Spot}
@@ -50,22 +52,21 @@ stored m place kind src from = over m (place + valueOffset) (take (pointOctets k
 abbrev pub mostTold : ℕ
 mostTold = headerOctets + addressOctets + valueSize
 
--- what the update at `at` tells, of the table in a memory, and the memory that it leaves
+-- the octets that the update at `at` tells, of the table in a memory, and the memory that it leaves
 abbrev pub toldOne : List ℕ → List ℕ → ℕ → List ℕ
-toldOne m us at = toldOf (updateAt us at) (updateOf (tableOf m) (updateAt us at))
+toldOne m us at = wire (toldOf (updateAt us at) (updateOf (tableOf m) (updateAt us at)))
 
 abbrev pub leftOne : List ℕ → List ℕ → ℕ → List ℕ
 leftOne m us at = holding m (tableOf m) (tableWith (tableOf m) (updateAt us at) (updateOf (tableOf m) (updateAt us at)))
 
 -- the same of n updates, one after another
 abbrev pub toldByAll : List ℕ → List ℕ → ℕ → ℕ → List ℕ
-toldByAll m us at n = toldBy (tableOf m) (updatesAt us at n)
+toldByAll m us at n = wire (toldBy (tableOf m) (updatesAt us at n))
 
 abbrev pub leftByAll : List ℕ → List ℕ → ℕ → ℕ → List ℕ
 leftByAll m us at n = holding m (tableOf m) (tableAfter (tableOf m) (updatesAt us at n))
 
--- the table's memory is left so, what is told stands in the output from o on, and its end comes back
+-- the table's memory is left so, and what is told is put into the output from o on
 pub record Applies (left told before : List ℕ) (o r : ℕ) (m out : List ℕ) : Type 0 where
-  pub reach : r ≡ o + length told
   pub memory : m ≡ left
-  pub output : out ≡ over before o told
+  pub output : PutsAt o told before r out

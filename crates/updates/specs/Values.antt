@@ -6,22 +6,8 @@ use mathlib.Core.Bool.{Bool}
 use mathlib.Core.Option.{Option, none, some}
 use lib.Dec.{eqb}
 use Rattle.limits.specs.Test.{_&_, pick}
-use Rattle.limits.specs.Size.{pointOctets}
 use Rattle.model.specs.declared.Point.{Point}
-use Rattle.model.specs.Place.{withValue}
-use Rattle.model.specs.Request.{element}
-use Rattle.table.specs.Table.{Table}
-use Rattle.table.specs.Change.{stationOf, pointIn}
-use Rattle.report.specs.Order.{pointsOf}
-use Rattle.answers.specs.Process.{Update}
-
--- The point at an address of a table, or none.
-abbrev pub addressed : Table → ℕ → ℕ → Option Point
-addressed t ca ioa = pointIn ioa (pointsOf (stationOf ca (t .stations)))
-
--- A point with another value: octets past its element are zero.
-abbrev pub revalued : Point → List ℕ → Point
-revalued p v = withValue (element (pointOctets (p .kind)) v) p
+use Rattle.answers.specs.Process.{Update, revalued}
 
 -- Does an update mean this point of station ca: the address and the type are the same?
 abbrev pub means : Update → ℕ → Point → Bool

@@ -14,9 +14,20 @@ fn text(path: &PathBuf) -> String {
     std::fs::read_to_string(path).unwrap_or_else(|error| panic!("{}: {error}", path.display()))
 }
 
+/// `desk` as it is started here: by itself, or by the program that `KHUVELTER_RUNNER` names (rust/machine says why).
+fn starting() -> Command {
+    let desk = env!("CARGO_BIN_EXE_desk");
+    let Some(runner) = std::env::var_os("KHUVELTER_RUNNER") else {
+        return Command::new(desk);
+    };
+    let mut command = Command::new(runner);
+    command.arg(desk);
+    command
+}
+
 /// Runs `desk` with words and something on standard input.
 fn desk(words: &[&str], input: &[u8]) -> Output {
-    let mut child = Command::new(env!("CARGO_BIN_EXE_desk"))
+    let mut child = starting()
         .args(words)
         .env("LC_ALL", "C.UTF-8")
         .env_remove("NO_COLOR")
@@ -225,7 +236,7 @@ fn plain_signs_where_utf_8_is_not_to_be_had() {
     let plain = said(&desk(&["--ascii", path], b""));
     assert!(plain.is_ascii());
     assert!(plain.contains("|###########+++++......|"));
-    let posix = Command::new(env!("CARGO_BIN_EXE_desk")).arg(path).env("LC_ALL", "POSIX").output().unwrap();
+    let posix = starting().arg(path).env("LC_ALL", "POSIX").output().unwrap();
     assert_eq!(said(&posix), plain);
 }
 

@@ -13,8 +13,9 @@ use Rattle.table.specs.Settings.{limitOf}
 use Rattle.table.specs.Memory.{tableOf}
 use Rattle.answers.specs.Said.{lent}
 use Rattle.answers.specs.Process.{proposalOk, processCauseTaken}
+use Rattle.answers.proofs.Proposals.{most-reply, whole-reply}
 use Rattle.updates.specs.Updates.{toldByAll, leftByAll}
-use Rattle.commands.proofs.Laws.{gives, most-reply, process-silent, process-bad, process-untold, process-unanswered, process-done}
+use Rattle.commands.proofs.Laws.{gives, process-silent, process-bad, process-untold, process-unanswered, process-done}
 use Rattle.commands.proofs.handle_process_command.Statement.{statement}
 use Rattle.commands.proofs.handle_process_command.Tie as tie
 
@@ -136,10 +137,11 @@ send-command-confirmation-requires c κs =
     let at-test = at-room .before .before .before .before .before in
     let at-limit = at-test .before .before in
     let a = at-limit .before .before .before .before .before .before .before .before .before .args in
-    let most = most-reply (at-limit .limit-of .result) (a .reply-type) (now (a .reply)) (sym (at-test .before .is-proposal .ensures) ∙ not-false _ (at-test .if2 .left)) in
+    let ok = sym (at-test .before .is-proposal .ensures) ∙ not-false _ (at-test .if2 .left) in
+    let most = most-reply (at-limit .limit-of .result) (a .reply-type) (now (a .reply)) ok in
     let high = at-limit .limit-of .ensures .2 in
     let room = at-room .if4 .left in
-    (omega arith, omega arith)
+    (whole-reply (at-limit .limit-of .result) (a .reply-type) (now (a .reply)) ok, omega arith, omega arith)
 
 same-length-4 : tie.Need-same-length-4
 same-length-4 c = search needs
@@ -173,10 +175,9 @@ returns-5 c =
     let q = at-confirmed .send-command-confirmation .ensures in
     let short = at-room .before .if3 .left in
     let room = at-room .if4 .left in
-    process-done l (a .negative) (a .reply-type) (now (a .reply)) us (a .command) (entry .pre) taken ok _ _ _ _ _ (q .0) (omega arith) t (omega arith)
+    process-done l (a .negative) (a .reply-type) (now (a .reply)) us (a .command) (entry .pre) taken ok _ _ _ _ _ q (omega arith) t (omega arith)
     (p .memory ∙ (λ j. leftByAll (l .table) us 0 (n j)))
-    (q .1)
-    (p .output ∙ (λ j. over (l .spontaneous) 0 (toldByAll (l .table) us 0 (n j))))
+    (p .output .1 ∙ (λ j. over (l .spontaneous) 0 (toldByAll (l .table) us 0 (n j))))
 
 pub handle-process-command-spec : {M : Type 1} → statement M
 handle-process-command-spec =

@@ -37,8 +37,10 @@ nothing-requires-2 c κs = search needs
 returns-2 : tie.Need-returns-2
 returns-2 c =
     let at-test = c .before .before in
-    let a = at-test .before .before .before .before .args in
-    let e = start-short (now (a .table)) (now (a .answer)) (sym (at-test .before .well-formed .ensures) ∙ not-false _ (at-test .if1 .left)) (omega arith) in
+    let at-known = at-test .before .before .before in
+    let a = at-known .before .args in
+    let o : Octets (now (a .table)) = λ j. omega (arith, at-known .shared-slice-known .given j) in
+    let e = start-short (now (a .table)) (now (a .answer)) o (sym (at-test .before .well-formed .ensures) ∙ not-false _ (at-test .if1 .left)) (omega arith) in
     record { answers = c .nothing2 .ensures ∙ e .answers; leaves = e .leaves }
 
 station-at-requires : tie.Need-station-at-requires
@@ -73,6 +75,7 @@ same-length c = search needs
 returns-3 : tie.Need-returns-3
 returns-3 c =
     let at-written = c .before .before .before in
+    let n = at-written .end-of-initialization-asdu .result in
     let at-address = at-written .before .before in
     let at-count = at-address .before in
     let at-first = at-count .before in
@@ -83,9 +86,9 @@ returns-3 c =
     let o : Octets m = λ j. omega (arith, at-known .shared-slice-known .given j) in
     let w = sym (at-test .before .well-formed .ensures) ∙ not-false _ (at-test .if1 .left) in
     let first : at-first .station-at .result ≡ stationsFrom m = omega arith in
-    let n : at-count .stations-of .result ≡ stationsIn m = at-count .stations-of .ensures .0 in
-    let ca = at-address .station-common-address .ensures .0 ∙ (λ j. commonAddressAt m (first j) (n j)) in
-    let e = start-done m (now (a .answer)) w o (omega arith) _ _ ca (at-written .end-of-initialization-asdu .ensures) in
+    let count : at-count .stations-of .result ≡ stationsIn m = at-count .stations-of .ensures .0 in
+    let ca = at-address .station-common-address .ensures .0 ∙ (λ j. commonAddressAt m (first j) (count j)) in
+    let e = start-done m (now (a .answer)) o w (omega arith) _ n _ ca (at-written .end-of-initialization-asdu .ensures) in
     record { answers = c .given .ensures ∙ e .answers; leaves = e .leaves }
 
 pub connection-started-spec : {M : Type 1} → statement M

@@ -1,10 +1,8 @@
 -- The four octets of the object are IOA 0 and octet 0.
 use borrow.Author.Needs.{needs}
 use native.Mathlib.Omega.{arith}
-use mathlib.Core.List.{[], _∷_}
-use Rattle.asdu.specs.Header.{object}
-use Rattle.asdu.proofs.Laws.{length-asdu}
-use Rattle.report.specs.Report.{dataHeader}
+use Rattle.asdu.specs.Joined.{joined}
+use Rattle.asdu.specs.Header.{objectOctets, asduOctets}
 use Rattle.report.specs.Single.{endOfInitializationAsdu}
 use Rattle.report.proofs.Single.{length-end}
 use Rattle.starting.proofs.end_of_initialization_asdu.Statement.{statement}
@@ -18,17 +16,15 @@ slice-aggregate-put-asdu c = search needs
 
 put-asdu-requires : tie.Need-put-asdu-requires
 put-asdu-requires c κs =
-    let ca = c .before .before .before .args .ca in
-    let n = length-asdu (dataHeader 70 1 4 ca) (0 ∷ 0 ∷ 0 ∷ 0 ∷ []) in
-    let m = length-end ca in
+    let n = length-end (c .before .before .before .args .ca) in
     (omega arith, omega arith)
 
 same-length : tie.Need-same-length
 same-length c = search needs
 
 returns : tie.Need-returns
-unfolding endOfInitializationAsdu object
-returns c = c .before .before .put-asdu .ensures .1
+unfolding endOfInitializationAsdu asduOctets objectOctets joined
+returns c = c .before .before .put-asdu .ensures
 
 pub end-of-initialization-asdu-spec : {M : Type 1} → statement M
 end-of-initialization-asdu-spec =

@@ -53,7 +53,7 @@ loop-again c =
     let p = at-apply-one .apply-one in
     let o : Octets (p .last .0) = λ j. omega (arith, at-slice-known3 .slice-known3 .given j) in
     going-on (now (a .m)) (now (a .updates)) (a .n) (now (a .out)) (l .m) (l .out) (l .o) (l .at) (l .left) (l .inv)
-    (p .last .0) (p .last .1 .1 .1 .0) (p .result) (omega arith) (entry .pre .2) o (omega arith) (p .ensures .reach) (p .ensures .memory) (p .ensures .output)
+    (p .last .0) (p .last .1 .1 .1 .0) (p .result) (omega arith) (entry .pre .2) o (omega arith) (p .ensures .output .0) (p .ensures .memory) (p .ensures .output .1)
 
 same-length : tie.Need-same-length Inv-loop μ-loop
 same-length c = c .before .loop .inv .same

@@ -8,6 +8,7 @@ use lib.ListN.{length}
 use Rattle.octets.specs.Over.{over}
 use Rattle.octets.specs.Number.{two, Octets}
 use Rattle.asdu.specs.Cause.{spontaneous}
+use Rattle.asdu.specs.Header.{asduOctets}
 use Rattle.model.specs.Place.{pointAt}
 use Rattle.report.specs.Single.{single}
 use Rattle.answers.specs.Process.{updateOctets}
@@ -43,7 +44,7 @@ returns c =
     let e = sym (at-can-apply-update .can-apply-update .ensures) ∙ c .enum-told .given .1 in
     let t : toldOne m us (a .at) ≡ [] = skipped-told m us (a .at) o w e in
     let l : length (toldOne m us (a .at)) ≡ 0 = ap length t in
-    record { reach = omega arith; memory = skipped-left m us (a .at) o w e; output = over-none out (a .o) ∙ ap (over out (a .o)) (sym t) }
+    record { memory = skipped-left m us (a .at) o w e; output = (omega arith, over-none out (a .o) ∙ ap (over out (a .o)) (sym t)) }
 
 add-kind : tie.Need-add-kind
 add-kind c = search needs
@@ -91,8 +92,8 @@ put-single-requires c κs =
     let new = at-store .store .last .0 in
     let s = at-store .store .ensures in
     let ca : at-two-at .two-at .result ≡ two us (a .at) = at-two-at .two-at .ensures .0 in
-    let told : single spontaneous (at-two-at .two-at .result) (pointAt new (g .0 .0)) ≡ toldOne m us (a .at) =
-    (λ j. single spontaneous (ca j) (pointAt (s j) (g .0 .0))) ∙ place-told m us (a .at) o (entry .pre .0 .0) (g .0 .0) e (entry .pre .0 .1) in
+    let told : asduOctets (single spontaneous (at-two-at .two-at .result) (pointAt new (g .0 .0))) ≡ toldOne m us (a .at) =
+    (λ j. asduOctets (single spontaneous (ca j) (pointAt (s j) (g .0 .0)))) ∙ place-told m us (a .at) o (entry .pre .0 .0) (g .0 .0) e (entry .pre .0 .1) in
     let l = ap length told in
     let r : a .o + length (toldOne m us (a .at)) ≤ length (now (a .out)) = entry .pre .1 in
     (omega arith, omega arith, omega arith)
@@ -124,9 +125,12 @@ returns-2 c =
     let new = at-store .store .last .0 in
     let s = at-store .store .ensures in
     let ca : at-two-at .two-at .result ≡ two us (a .at) = at-two-at .two-at .ensures .0 in
-    let told : single spontaneous (at-two-at .two-at .result) (pointAt new (g .0 .0)) ≡ toldOne m us (a .at) =
-    (λ j. single spontaneous (ca j) (pointAt (s j) (g .0 .0))) ∙ place-told m us (a .at) o w (g .0 .0) e h in
-    record { reach = p .ensures .0 ∙ ap (λ (x : List ℕ). a .o + length x) told; memory = s ∙ place-left m us (a .at) o w (g .0 .0) e h; output = p .ensures .1 ∙ ap (over (now (a .out)) (a .o)) told }
+    let told : asduOctets (single spontaneous (at-two-at .two-at .result) (pointAt new (g .0 .0))) ≡ toldOne m us (a .at) =
+    (λ j. asduOctets (single spontaneous (ca j) (pointAt (s j) (g .0 .0)))) ∙ place-told m us (a .at) o w (g .0 .0) e h in
+    record {
+      memory = s ∙ place-left m us (a .at) o w (g .0 .0) e h;
+      output = (p .ensures .0 ∙ ap (λ (x : List ℕ). a .o + length x) told, p .ensures .1 ∙ ap (over (now (a .out)) (a .o)) told);
+    }
 
 pub apply-one-spec : {M : Type 1} → statement M
 apply-one-spec =
