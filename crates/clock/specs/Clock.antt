@@ -1,15 +1,17 @@
--- The last master clock as a record, and what the entry for system commands leaves of it.
+-- The last master clock as a record, the octets that stand for it, and what a system command leaves of it.
 -- Document 01, 'What each command says': a small record of seven octets and a known flag, changed in place.
-use mathlib.Core.Path.{_≡_}
 use Prim.Native.Nat.{ℕ}
 use mathlib.Core.List.{List, [], _∷_, _++_}
 use mathlib.Core.Bool.{Bool, false, not}
 use lib.ListN.{take, getD, replicate}
 use lib.Dec.{eqb}
+use denote.Triple.Both.{Both}
+use denote.Ref.{RefT}
 use Rattle.limits.specs.Test.{pick}
-use Rattle.table.specs.Table.{Table}
 use Rattle.answers.specs.declared.Answered.{Answered}
-use Rattle.answers.specs.Said.{Said, Lent, answeredOn, lentAfter}
+use Rattle.answers.specs.Said.{asItIs, Leaves}
+use Rattle.answers.specs.System.{systemSaid}
+use Rattle.system_command_handler.specs.Handler.{atEntry, atExit}
 use Rattle.clock.specs.declared.Clock.{Clock}
 
 -- A fresh clock is seven zeros, not known.
@@ -32,9 +34,7 @@ octetsOf c = withFlag (c .octets) (c .known)
 abbrev pub clockOf : List ℕ → Clock
 clockOf m = record { octets = take 7 m; known = not (eqb (getD m 7 0) 0) }
 
--- What comes back, the clock, the table and the answer memory are those of what the command says.
-pub record Leaves (f : Table → Said) (l : Lent) (r : Answered) (clock : Clock) (table answer : List ℕ) : Type 0 where
-  pub answered : r ≡ answeredOn f l
-  pub clock-left : clock ≡ clockOf (lentAfter f l .clock)
-  pub table-left : table ≡ lentAfter f l .table
-  pub answer-left : answer ≡ lentAfter f l .answer
+-- What a system command gives back and leaves, the clock before and after it being records.
+abbrev pub Answers : List ℕ → Both (RefT (List ℕ)) (RefT (List ℕ)) → Clock → Both (RefT (List ℕ)) (RefT (List ℕ)) → Answered → Clock → Type 0
+Answers asdu table before answer r after =
+    Leaves asItIs (systemSaid (octetsOf before) asdu) (atEntry table (octetsOf before) answer) r (atExit table (octetsOf after) answer)

@@ -1,10 +1,8 @@
 // The last master clock as a record that is lent and changed in place, and the entry for system commands that takes it so.
 use answers::Answered;
 ghost use mathlib.Core.Path.{_≡_};
-ghost use Rattle.limits.specs.Size.{standardLimit};
-ghost use Rattle.answers.specs.System.{systemSaid};
-ghost use Rattle.system_command_handler.specs.Handler.{lentTo};
-ghost use Rattle.clock.specs.Clock.{octetsOf, clockOf, freshClock, flagOf, withFlag, Leaves};
+ghost use lib.ListN.{length};
+ghost use Rattle.clock.specs.Clock.{clockOf, freshClock, flagOf, withFlag, Answers};
 
 // The last master clock: seven octets of time, and whether one was received.
 pub struct Clock {
@@ -40,7 +38,7 @@ fn flag_of(known: bool) -> u8
 
 // Time and flag as eight octets.
 pub fn octets_of(time: [u8; 7], known: bool) -> [u8; 8]
-    ensures { λ r. ⌜ r ≡ withFlag time known ⌝ }
+    ensures { λ r. ⌜ (r ≡ withFlag time known) × (length r ≡ 8) ⌝ }
 {
     [
         time[0],
@@ -56,7 +54,7 @@ pub fn octets_of(time: [u8; 7], known: bool) -> [u8; 8]
 
 // The clock of eight octets.
 pub fn clock_of(flat: [u8; 8]) -> Clock
-    ensures { λ r. ⌜ r ≡ clockOf flat ⌝ }
+    ensures { λ r. ⌜ (r ≡ clockOf flat) × (length flat ≡ 8) ⌝ }
 {
     Clock {
         octets: [
@@ -74,7 +72,7 @@ pub fn clock_of(flat: [u8; 8]) -> Clock
 
 // The entry with the clock by value: all tests and the answer.
 pub fn answer_command(table: &mut [u8], clock: Clock, asdu: &[u8], answer: &mut [u8]) -> Told
-    ensures { λ r. ⌜ Leaves (systemSaid standardLimit (octetsOf clock) (now (asdu .entry))) (lentTo (now (table .entry)) (octetsOf clock) (now (answer .entry))) (r .answered) (r .clock) (now (table .exit)) (now (answer .exit)) ⌝ }
+    ensures { λ r. ⌜ Answers (now (asdu .entry)) table clock answer (r .answered) (r .clock) ⌝ }
 {
     let time = clock.octets;
     let flat = octets_of(time, clock.known);
@@ -94,7 +92,7 @@ pub fn system_command(
     asdu: &[u8],
     answer: &mut [u8],
 ) -> Answered
-    ensures { λ r. ⌜ Leaves (systemSaid standardLimit (octetsOf (now (clock .entry))) (now (asdu .entry))) (lentTo (now (table .entry)) (octetsOf (now (clock .entry))) (now (answer .entry))) r (now (clock .exit)) (now (table .exit)) (now (answer .exit)) ⌝ }
+    ensures { λ r. ⌜ Answers (now (asdu .entry)) table (now (clock .entry)) answer r (now (clock .exit)) ⌝ }
 {
     let told = answer_command(table, *clock, asdu, answer);
     *clock = told.clock;

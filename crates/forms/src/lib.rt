@@ -5,13 +5,10 @@ use model::Request;
 use registry::Reply;
 ghost use mathlib.Core.Path.{_≡_};
 ghost use mathlib.Core.List.{map};
-ghost use Rattle.limits.specs.Size.{standardLimit};
 ghost use Rattle.replies.specs.Replies.{Replies};
 ghost use Rattle.registry.specs.Registry.{registeringAll};
 ghost use Rattle.points.specs.Points.{whole};
-ghost use Rattle.answers.specs.System.{systemSaid};
-ghost use Rattle.system_command_handler.specs.Handler.{lentTo};
-ghost use Rattle.clock.specs.Clock.{octetsOf, Leaves};
+ghost use Rattle.clock.specs.Clock.{Answers};
 
 // Registers no points.
 pub fn register_none(table: &mut [u8], points: [Request; 0]) -> Reply
@@ -36,7 +33,7 @@ pub fn register_three(table: &mut [u8], points: [Request; 3]) -> Reply
 
 // A system command on a clock that comes by value and goes back: it is kept here, and lent to the entry.
 pub fn system_command(table: &mut [u8], before: Clock, asdu: &[u8], answer: &mut [u8]) -> Told
-    ensures { λ r. ⌜ Leaves (systemSaid standardLimit (octetsOf before) (now (asdu .entry))) (lentTo (now (table .entry)) (octetsOf before) (now (answer .entry))) (r .answered) (r .clock) (now (table .exit)) (now (answer .exit)) ⌝ }
+    ensures { λ r. ⌜ Answers (now (asdu .entry)) table before answer (r .answered) (r .clock) ⌝ }
 {
     let mut kept = before;
     let answered = clock::system_command(table, &mut kept, asdu, answer);

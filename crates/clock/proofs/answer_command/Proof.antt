@@ -1,12 +1,13 @@
 -- The flat entry on the octets of the clock, and what comes back read as a clock. Assumes nothing.
-use mathlib.Core.Path.{_≡_, ap, subst, _∙_}
-use mathlib.Core.List.{List}
-use Prim.Native.Nat.{ℕ}
+use mathlib.Core.Path.{_≡_, sym, ap, subst, _∙_}
+use mathlib.Core.List.{List, [], _∷_}
+use lib.ListN.{length, length-append}
+use Prim.Native.Nat.{ℕ, _+_}
 use denote.Ref.{now}
-use Rattle.limits.specs.Size.{standardLimit}
+use Rattle.clock.proofs.Laws.{Flagged, flagged-clock, flagged-after, same-octets}
+use Rattle.answers.specs.Said.{Lent, lent, asItIs, Leaves}
 use Rattle.answers.specs.System.{systemSaid}
-use Rattle.system_command_handler.specs.Handler.{lentTo}
-use Rattle.clock.specs.Clock.{clockOf, Leaves}
+use Rattle.clock.specs.Clock.{octetsOf, flagOf}
 use borrow.Author.Needs.{needs}
 use native.Mathlib.Omega.{arith}
 use Rattle.clock.proofs.answer_command.Statement.{statement}
@@ -29,12 +30,20 @@ same-length-2 c = search needs
 
 returns : tie.Need-returns
 returns c =
-    let b = c .before .before .before .before .before .before .before in
-    let a = b .before .before .before .before .before .before .before .before .args in
-    let e = b .system-command .ensures in
-    subst (λ (k : List ℕ). Leaves (systemSaid standardLimit k (now (a .asdu))) (lentTo (now (a .table)) k (now (a .answer))) (b .system-command .result .answered) (c .clock-of .result) (b .system-command .last .0) (b .system-command .last .1 .1 .1 .0))
-    (b .before .before .before .octets-of .ensures)
-    (record { answered = e .answered; clock-left = c .clock-of .ensures ∙ ap clockOf (e .clock-left); table-left = e .table-left; answer-left = e .answer-left })
+    let at-entry = c .before .before .before .before .before .before .before in
+    let at-octets = at-entry .before .before .before in
+    let a = at-octets .before .before .before .before .before .args in
+    let flat = at-octets .octets-of .result in
+    let said = at-entry .system-command in
+    let k = at-octets .octets-of .ensures .0 in
+    let n : length (a .clock .octets) + 1 ≡ 8 = sym (length-append (a .clock .octets) (flagOf (a .clock .known) ∷ [])) ∙ ap length (sym k) ∙ at-octets .octets-of .ensures .1 in
+    let seven : length (a .clock .octets) ≡ 7 = omega arith in
+    let w = flagged-clock (a .clock .octets) (a .clock .known) seven in
+    let e = said .ensures in
+    let flagged = subst Flagged (sym (ap (λ (z : Lent). z .clock) (e .leaves))) (flagged-after (now (a .asdu)) (lent (now (a .table)) flat (now (a .answer)) []) (subst Flagged (sym k) w)) in
+    let back : octetsOf (c .clock-of .result) ≡ said .result .clock = ap octetsOf (c .clock-of .ensures .0) ∙ same-octets (said .result .clock) (c .clock-of .ensures .1) flagged in
+    subst (λ (x : List ℕ). Leaves asItIs (systemSaid x (now (a .asdu))) (lent (now (a .table)) x (now (a .answer)) []) (said .result .answered) (lent (said .last .0) (octetsOf (c .clock-of .result)) (said .last .1 .1 .1 .0) [])) k
+    (record { answers = e .answers; leaves = (λ j. lent (said .last .0) (back j) (said .last .1 .1 .1 .0) []) ∙ e .leaves })
 
 pub answer-command-spec : {M : Type 1} → statement M
 answer-command-spec =

@@ -44,7 +44,7 @@ returns : tie.Need-returns
 unfolding gets
 returns c =
     let flat = c .args .t1 in
-    ap (λ (l : List ℕ). clockWith l (not (eqb (getD flat 7 0) 0))) (gets-drop 0 7 flat (omega arith))
+    (ap (λ (l : List ℕ). clockWith l (not (eqb (getD flat 7 0) 0))) (gets-drop 0 7 flat (omega arith)), omega arith)
 
 pub clock-of-spec : {M : Type 1} → statement M
 clock-of-spec =

@@ -1,5 +1,5 @@
 -- Seven octets read one by one are the seven. Assumes nothing.
-use mathlib.Core.Path.{_≡_, ap, _∙_}
+use mathlib.Core.Path.{_≡_, refl, ap, _∙_}
 use Prim.Native.Nat.{ℕ, _≤_}
 use mathlib.Core.List.{List}
 use lib.Seq.{take-all}
@@ -38,7 +38,7 @@ returns : tie.Need-returns
 unfolding gets
 returns c =
     let time = c .before .args .t1 in
-    rw (c .flag-of .ensures) (ap (λ (l : List ℕ). withFlag l (c .before .args .known)) (gets-drop 0 7 time (omega arith) ∙ take-all 7 time (omega arith)))
+    (rw (c .flag-of .ensures) (ap (λ (l : List ℕ). withFlag l (c .before .args .known)) (gets-drop 0 7 time (omega arith) ∙ take-all 7 time (omega arith))), refl)
 
 pub octets-of-spec : {M : Type 1} → statement M
 octets-of-spec =

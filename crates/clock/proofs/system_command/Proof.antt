@@ -40,13 +40,12 @@ use denote.Triple.Clauses.{ensured, lasts}
 use denote.Triple.Table.{entered, cited}
 use denote.Triple.Walked.{says, Stays, stay-ref, gave-slice, stay-dropped, walkOf, goes-dropped, goes-gave-slice, goes-ref, Walks, ends-at, walked, walk-meets}
 use denote.Exit.{yes}
-use Rattle.limits.specs.Size.{standardLimit}
 use Rattle.answers.specs.declared.Answered.{Answered}
+use Rattle.answers.specs.Said.{lent, asItIs, Leaves}
 use Rattle.answers.specs.System.{systemSaid}
 use Rattle.answers.proofs.Answered as A₀
 use Rattle.answers.proofs.Answered.Laws as A₁
-use Rattle.system_command_handler.specs.Handler.{lentTo}
-use Rattle.clock.specs.Clock.{octetsOf, Leaves}
+use Rattle.clock.specs.Clock.{octetsOf}
 use Rattle.clock.specs.declared.Clock.{Clock}
 use Rattle.clock.specs.declared.Told.{Told}
 use Rattle.clock.proofs.Locals.{alloc-all}
@@ -126,7 +125,7 @@ module _ {M : Type 1} (𝓤 : URA M) (H : Heap 𝓤) (A : Atoms 𝓤) (W : Given
 
   -- what the entry leaves, of its answer, the clock, the table and the answer memory
   abbrev Left : Answered → Clock → List ℕ → List ℕ → Type 0
-  Left r k = Leaves (systemSaid standardLimit (octetsOf h) ms) (lentTo ts (octetsOf h) os) r k
+  Left r k ts′ os′ = Leaves asItIs (systemSaid (octetsOf h) ms) (lent ts (octetsOf h) os []) r (lent ts′ (octetsOf k) os′ [])
 
   abbrev Ended : Clock → List ℕ → List ℕ → List (Item 𝓤)
   Ended k ts′ os′ =

@@ -41,13 +41,12 @@ use denote.Triple.Table.{entered, cited}
 use denote.Triple.Walked.{says, Stays, gave-slice, stay-dropped, walkOf, goes-dropped, goes-gave-slice, Walks, ends-at, walked, walk-meets}
 use denote.Exit.{yes}
 use borrow.Table.OneValue.{part-in, part-out}
-use Rattle.limits.specs.Size.{standardLimit}
 use Rattle.answers.specs.declared.Answered.{Answered}
+use Rattle.answers.specs.Said.{lent, asItIs, Leaves}
 use Rattle.answers.specs.System.{systemSaid}
 use Rattle.answers.proofs.Answered as A₀
 use Rattle.answers.proofs.Answered.Laws as A₁
-use Rattle.system_command_handler.specs.Handler.{lentTo}
-use Rattle.clock.specs.Clock.{octetsOf, Leaves}
+use Rattle.clock.specs.Clock.{octetsOf}
 use Rattle.clock.specs.declared.Clock.{Clock}
 use Rattle.clock.specs.declared.Told.{Told}
 use Rattle.clock.proofs.Clock as T
@@ -137,7 +136,7 @@ module _ {M : Type 1} (𝓤 : URA M) (H : Heap 𝓤) (A : Atoms 𝓤) (W : Given
 
   -- what the entry leaves, of its answer, the clock, the table and the answer memory
   abbrev Left : Answered → Clock → List ℕ → List ℕ → Type 0
-  Left r k = Leaves (systemSaid standardLimit (octetsOf h) ms) (lentTo ts (octetsOf h) os) r k
+  Left r k ts′ os′ = Leaves asItIs (systemSaid (octetsOf h) ms) (lent ts (octetsOf h) os []) r (lent ts′ (octetsOf k) os′ [])
 
   abbrev Ended : List ℕ → List ℕ → List (Item 𝓤)
   Ended ts′ os′ = ‵ (flft κ₀ q₀) ∷ ‵ (flft κ₁ q₁) ∷ ‵ (flft κ₂ q₂) ∷ ‵ (finally u8 γ₀ ts′) ∷ ‵ (finally u8 γ₂ os′) ∷ []
