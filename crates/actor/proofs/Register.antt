@@ -19,13 +19,13 @@ use Rattle.table.specs.Table.{held}
 use Rattle.table.specs.Memory.{tableOf, wellFormed}
 use Rattle.table.specs.Change.{stationOf, seekIn, known}
 use Rattle.table.proofs.Parse.{holds, parse-some}
-use Rattle.seats.specs.declared.Seat.the-variants.{Here, NotPlanned}
-use Rattle.seats.specs.declared.Spot.{Spot}
-use Rattle.seats.specs.declared.Spot.the-variants.{Held, Missing}
-use Rattle.seats.specs.Seats.{seatAt}
-use Rattle.seats.specs.Find.{findAt}
-use Rattle.seats.proofs.Laws.{seat-law, absent-law, Standing, standing}
-use Rattle.seats.proofs.Halving.{held-law, missing-law}
+use Rattle.lookup.specs.declared.Seat.the-variants.{Here, NotPlanned}
+use Rattle.lookup.specs.declared.Spot.{Spot}
+use Rattle.lookup.specs.declared.Spot.the-variants.{Held, Missing}
+use Rattle.lookup.specs.Seats.{seatAt}
+use Rattle.lookup.specs.Find.{findAt}
+use Rattle.lookup.proofs.Laws.{seat-law, absent-law, Standing, standing}
+use Rattle.lookup.proofs.Halving.{held-law, missing-law}
 use Rattle.insert.specs.Insert.{placed, HasRoom}
 use Rattle.insert.proofs.Laws.{insert-parsed, insert-bounds}
 use Rattle.insert.proofs.Entry.{admitted-room}

@@ -17,9 +17,9 @@ use Rattle.table.proofs.Parse.{holds}
 use Rattle.table.proofs.Shares.{total-held, total-unmet}
 use Rattle.table.proofs.Stations.{sum-unmet}
 use Rattle.wellformed.proofs.Shares.{share-law}
-use Rattle.seats.specs.declared.Seat.the-variants.{Here}
-use Rattle.seats.specs.Seats.{seatAt}
-use Rattle.seats.proofs.Laws.{seat-law}
+use Rattle.lookup.specs.declared.Seat.the-variants.{Here}
+use Rattle.lookup.specs.Seats.{seatAt}
+use Rattle.lookup.proofs.Laws.{seat-law}
 use Rattle.registry.specs.Registry.{admissionOutcome, roomFault}
 use Rattle.actor.specs.Actor.{shareHere, freeIn, unmetIn, roomAt}
 

@@ -10,12 +10,12 @@ use Rattle.table.specs.Table.{held, unmet}
 use Rattle.table.specs.Memory.{tableOf, wellFormed}
 use Rattle.table.specs.Change.{stationOf, known}
 use Rattle.table.proofs.Parse.{parse-some, parse-none}
-use Rattle.seats.specs.declared.Seat.the-variants.{Here, NotPlanned}
-use Rattle.seats.specs.declared.Spot.the-variants.{Held, Missing}
-use Rattle.seats.specs.Seats.{seatAt}
-use Rattle.seats.specs.Find.{findAt}
-use Rattle.seats.proofs.Laws.{seat-law, absent-law}
-use Rattle.seats.proofs.Halving.{missing-law}
+use Rattle.lookup.specs.declared.Seat.the-variants.{Here, NotPlanned}
+use Rattle.lookup.specs.declared.Spot.the-variants.{Held, Missing}
+use Rattle.lookup.specs.Seats.{seatAt}
+use Rattle.lookup.specs.Find.{findAt}
+use Rattle.lookup.proofs.Laws.{seat-law, absent-law}
+use Rattle.lookup.proofs.Halving.{missing-law}
 use Rattle.remove.specs.Remove.{takenOut, allTakenOut}
 use Rattle.remove.proofs.Entry.{take-out-law, take-all-out-law}
 use Rattle.registry.specs.Effect.{Effect, refused}

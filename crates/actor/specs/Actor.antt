@@ -12,8 +12,8 @@ use Rattle.model.specs.declared.Request.{Request}
 use Rattle.model.specs.Request.{ownFault}
 use Rattle.table.specs.Memory.{sumAt, unmetAt}
 use Rattle.wellformed.specs.Station.{shareAt}
-use Rattle.seats.specs.declared.Spot.{Spot}
-use Rattle.seats.specs.declared.Spot.the-variants.{Held, Missing}
+use Rattle.lookup.specs.declared.Spot.{Spot}
+use Rattle.lookup.specs.declared.Spot.the-variants.{Held, Missing}
 use Rattle.registry.specs.Registry.{admissionOutcome}
 use Rattle.registry.specs.Effect.{firstFault}
 use Rattle.registry.specs.declared.StationShare.{StationShare}

@@ -4,16 +4,16 @@ use layout::HEAD_SIZE;
 use layout::PLACE_SIZE;
 use limits::outcome::Outcome;
 use limits::share::Share;
+use lookup::Seat;
+use lookup::Spot;
 use model::Request;
 use registry::Reply;
 use registry::StationShare;
 use replies::reply_of;
-use seats::Seat;
-use seats::Spot;
 ghost use mathlib.Core.Path.{_≡_};
 ghost use mathlib.Core.Bool.{true};
 ghost use Rattle.table.specs.Memory.{wellFormed};
-ghost use Rattle.seats.specs.Seats.{seatAt};
+ghost use Rattle.lookup.specs.Seats.{seatAt};
 ghost use Rattle.replies.specs.Replies.{Replies};
 ghost use Rattle.registry.specs.Registry.{registering, unregistering, unregisteringAll, shareOn, noShare};
 ghost use Rattle.actor.specs.Actor.{HasStation, roomAt, seatFault, offsetOf, stationShareAt};
@@ -82,7 +82,7 @@ fn register_here(table: &mut [u8], q: Request, i: usize, first: usize, h: usize)
     requires { ⌜ (wellFormed (now table) ≡ true) × (seatAt (now table) (q .ca) ≡ Seat.Here i first h) ⌝ }
     ensures { λ r. ⌜ Replies (registering q) (now (table .entry)) r (now (table .exit)) ⌝ }
 {
-    let spot = seats::find(table, first, h, q.ioa as usize);
+    let spot = lookup::find(table, first, h, q.ioa as usize);
     let own = seat_fault(q, spot);
     if !own.is_done() {
         return reply_of(own);
@@ -109,7 +109,7 @@ pub fn register_point(table: &mut [u8], q: Request) -> Reply
     if !wellformed::well_formed(table) {
         return reply_of(Outcome::TableNotWellFormed);
     }
-    let Seat::Here(i, first, h) = seats::seat_at(table, q.ca as usize) else {
+    let Seat::Here(i, first, h) = lookup::seat_at(table, q.ca as usize) else {
         return reply_of(model::own_fault(false, q));
     };
     register_here(table, q, i, first, h)
@@ -122,10 +122,10 @@ pub fn unregister_point(table: &mut [u8], ca: u16, ioa: u32) -> Reply
     if !wellformed::well_formed(table) {
         return reply_of(Outcome::TableNotWellFormed);
     }
-    let Seat::Here(i, first, h) = seats::seat_at(table, ca as usize) else {
+    let Seat::Here(i, first, h) = lookup::seat_at(table, ca as usize) else {
         return reply_of(Outcome::NotRegistered);
     };
-    let Spot::Held(at) = seats::find(table, first, h, ioa as usize) else {
+    let Spot::Held(at) = lookup::find(table, first, h, ioa as usize) else {
         return reply_of(Outcome::NotRegistered);
     };
     remove::take_out(table, i, h, at);
@@ -167,7 +167,7 @@ pub fn station_share(table: &[u8], ca: u16) -> StationShare
     if !wellformed::well_formed(table) {
         return no_share(Outcome::TableNotWellFormed);
     }
-    let Seat::Here(i, _, _) = seats::seat_at(table, ca as usize) else {
+    let Seat::Here(i, _, _) = lookup::seat_at(table, ca as usize) else {
         return no_share(Outcome::StationNotPlanned);
     };
     share_here(table, i)

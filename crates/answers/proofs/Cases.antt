@@ -1,27 +1,23 @@
 -- Cases a to f of document 01, 'One gateway on paper', computed from the definition of what a system command says. Octets as the paper prints them.
 -- Assumes nothing.
 use mathlib.Core.Path.{_≡_, refl}
-use mathlib.Core.List.{List, [], _∷_, _++_, map}
-use mathlib.Core.Bool.{Bool, true, false}
-use mathlib.Core.Option.{Option, none, some}
+use mathlib.Core.List.{List, [], _∷_, _++_}
 use Prim.Native.Nat.{ℕ}
-use lib.ListN.{length, replicate, take, drop}
-use Rattle.limits.specs.Test.{_&_, pick, total}
+use lib.ListN.{replicate}
+use Rattle.limits.specs.Test.{_&_}
 use Rattle.limits.specs.Outcome.{numberOf}
-use Rattle.limits.specs.Size.{pointTypes, systemTypes, processTypes, endTypes, namedTypes, pointOctets, elementOctets, octetsIn, listed, classOf, standardLimit}
-use Rattle.model.specs.declared.Point.{Point}
-use Rattle.table.specs.Table.{document01, Station, Table}
+use Rattle.limits.specs.Size.{pointTypes, systemTypes, processTypes, endTypes, namedTypes, pointOctets, elementOctets, octetsIn, listed, classOf}
+use Rattle.table.specs.Table.{document01, Table}
 use Rattle.table.specs.Settings.{limitOf}
-use Rattle.table.specs.Change.{stationOf, inStation, changed, pointIn}
+use Rattle.table.specs.Change.{stationOf, inStation, changed}
 use Rattle.asdu.specs.Command.{readAs}
-use Rattle.asdu.specs.Confirmation.{confirmation, echo, reply}
+use Rattle.asdu.specs.Confirmation.{confirmation, reply}
 use Rattle.asdu.specs.Header.{header, objectOctets, asduOctets, wire}
 use Rattle.report.specs.Packing.{selected, joined, cut, chunks}
 use Rattle.report.specs.Selection.{interrogationTypes, interrogationTypesOf, counterTypes}
-use Rattle.report.specs.Report.{objectOf, ordered, run, report}
+use Rattle.report.specs.Report.{objectOf, run, report}
 use Rattle.report.specs.Order.{pointsFor}
 use Rattle.answers.specs.Said.{Said, Lent, outcomeWith}
-use Rattle.registry.specs.Effect.{holding}
 use Rattle.answers.specs.System.{systemSaid, systemFrom, isSilent, commandSaid, interrogationAnswer, counterAnswer, afterCounters, resetBy, resetAt, resetIn, reported, answerTo}
 
 -- the gateway on paper

@@ -1,22 +1,17 @@
 -- The common last step of every command: a refusal writes nothing and leaves every memory as it was; what is written stands at the front;
 -- and a command is an effect on the table, so that histories have commands in them. Assumes nothing.
-use mathlib.Core.Path.{_≡_, refl, sym, ap, _∙_}
-use mathlib.Core.List.{List, [], _∷_, _++_}
+use mathlib.Core.Path.{_≡_, refl}
+use mathlib.Core.List.{List}
 use mathlib.Core.Bool.{Bool, true, false}
 use mathlib.Core.Option.{Option, none, some}
-use Prim.Native.Nat.{ℕ, _+_, _≤_}
-use native.Mathlib.Omega.{arith}
-use lib.ListN.{length, drop}
-use lib.Seq.{drop-drop, drop-append-seam, drop-append-add}
-use Rattle.limits.specs.Test.{pick}
+use Prim.Native.Nat.{ℕ}
+use lib.ListN.{drop}
+use lib.Seq.{drop-append-seam}
 use Rattle.limits.specs.Outcome.{isDone}
-use Rattle.limits.specs.declared.outcome.Outcome.{Outcome}
-use Rattle.limits.proofs.Outcomes.{not-both}
 use Rattle.asdu.specs.Header.{Asdu, wire}
 use Rattle.table.specs.Table.{Table}
 use Rattle.table.specs.Memory.{parse}
-use Rattle.registry.specs.Effect.{Effect, holding, memoryFrom, memoryOn, replyFrom, replyOn}
-use Rattle.answers.specs.declared.Answered.{Answered}
+use Rattle.registry.specs.Effect.{Effect, memoryFrom, memoryOn, replyFrom, replyOn}
 use Rattle.answers.specs.Said.{Said, Lent, outcomeWith, answeredFrom, lentFrom, answeredOn, lentAfter, size, fronted}
 
 module _ (f : Table → Said) (l : Lent) where

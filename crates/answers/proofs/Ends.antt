@@ -23,7 +23,7 @@ use Rattle.table.specs.Memory.{tableOf, wellFormed, parse}
 use Rattle.table.proofs.Parse.{passed, printed, parse-some, parse-none}
 use Rattle.registry.specs.Effect.{holding}
 use Rattle.answers.specs.declared.Answered.{Answered}
-use Rattle.answers.specs.Said.{Said, Lent, lent, says, size, fits, fronted, outcomeWith, answeredFrom, lentFrom, answeredOn, lentAfter, Leaves, asItIs, nothing, given, sent, left, Sends, withTable}
+use Rattle.answers.specs.Said.{Said, Lent, lent, says, size, fits, fronted, outcomeWith, answeredFrom, lentFrom, Leaves, asItIs, nothing, given, sent, left, Sends, withTable}
 
 -- What is written at the front of a memory, in the words of `octets` and of `Said`.
 pub front-is : (m : List ℕ) (xs : List Asdu) → over m 0 (wire xs) ≡ fronted xs m

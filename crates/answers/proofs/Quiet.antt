@@ -1,22 +1,21 @@
 -- Commands are quiet: a good table stays good, and every station holds what it held. So the history of demand 3 has commands in it. Assumes nothing.
-use mathlib.Core.Path.{_≡_, refl, sym, ap, _∙_}
-use mathlib.Core.List.{List, [], _∷_, _++_, map}
+use mathlib.Core.Path.{_≡_, refl, _∙_}
+use mathlib.Core.List.{List, [], _∷_, map}
 use mathlib.Core.Bool.{Bool, true, false}
 use mathlib.Core.Option.{Option, none, some}
 use Prim.Native.Nat.{ℕ, zero, suc, _+_}
 use native.Mathlib.Omega.{arith}
 use lib.ListN.{length}
-use lib.Dec.{leb, eqb}
-use Rattle.limits.specs.Test.{_&_, pick}
+use lib.Dec.{eqb}
+use Rattle.limits.specs.Test.{pick}
 use Rattle.limits.specs.Outcome.{isDone}
 use Rattle.model.specs.declared.Point.{Point}
 use Rattle.table.specs.Table.{Station, Table, good, rising}
 use Rattle.table.specs.Settings.{limitOf}
 use Rattle.table.specs.Change.{stationOf, withPoints, withStations, changed, pointIn}
 use Rattle.table.proofs.Parse.{Good, good-is, is-good}
-use Rattle.table.proofs.Change.{Found, station-found, station-rises}
-use Rattle.registry.specs.Effect.{Effect, next}
-use Rattle.registry.specs.History.{Holding, holdingOf, Quiet}
+use Rattle.table.proofs.Change.{station-found, station-rises}
+use Rattle.registry.specs.History.{holdingOf, Quiet}
 use Rattle.registry.proofs.Gentle.{Gentle, gentle-here, gentle-everywhere}
 use Rattle.asdu.specs.Header.{globalAddress}
 use Rattle.asdu.specs.declared.command.Command.{Command}

@@ -1,21 +1,20 @@
 -- What a process command says, given a caller's proposal. Document 01, 'What each command says'; the Rust's `commands.rs`.
-use Prim.Native.Nat.{ℕ, zero, suc, _+_, _*_, _-_, _/_, _%_}
+use Prim.Native.Nat.{ℕ, zero, suc, _+_, _-_, _/_, _%_}
 use mathlib.Core.List.{List, [], _∷_, _++_, map}
-use mathlib.Core.Bool.{Bool, true, false, _||_, not}
+use mathlib.Core.Bool.{Bool, _||_}
 use mathlib.Core.Option.{Option, none, some}
-use lib.ListN.{length, take, drop, getD, replicate}
+use lib.ListN.{length, getD}
 use lib.Dec.{leb, eqb}
 use Rattle.limits.specs.Test.{_&_, pick}
 use Rattle.limits.specs.Size.{classOf, elementOctets, pointOctets, controlOctets, headerOctets, addressOctets}
-use Rattle.limits.specs.declared.outcome.Outcome.{Outcome}
 use Rattle.limits.specs.declared.outcome.Outcome.the-variants.{Done, Silent, BadProposal}
 use Rattle.octets.specs.Number.{two, three, twelve}
 use Rattle.model.specs.declared.Point.{Point}
 use Rattle.model.specs.Place.{withValue}
 use Rattle.model.specs.Request.{element}
-use Rattle.table.specs.Table.{Station, Table}
+use Rattle.table.specs.Table.{Table}
 use Rattle.table.specs.Settings.{limitOf}
-use Rattle.table.specs.Change.{stationOf, changed, pointIn}
+use Rattle.table.specs.Change.{changed, pointIn}
 use Rattle.asdu.specs.Cause.{request, activation, activationConfirmation, deactivation, deactivationConfirmation}
 use Rattle.asdu.specs.declared.command.Command.{Command}
 use Rattle.asdu.specs.declared.command.Entry.the-variants.{ProcessCommands}

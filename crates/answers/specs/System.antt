@@ -1,19 +1,18 @@
 -- What each system command says: interrogation, counters, read, clock, tests, reset process.
 -- Document 01, 'What each command says'; IEC 60870-5-101, 7.4 (functions) and 7.2.6.22, 7.2.6.23 (qualifiers).
-use Prim.Native.Nat.{ℕ, zero, suc, _+_, _*_, _-_, _/_, _%_}
+use Prim.Native.Nat.{ℕ, zero, suc, _+_, _-_, _/_, _%_}
 use mathlib.Core.List.{List, [], _∷_, _++_, map}
 use mathlib.Core.Bool.{Bool, true, false, _||_, not}
 use mathlib.Core.Option.{Option, none, some}
-use lib.ListN.{length, take, drop, getD, replicate}
+use lib.ListN.{take, drop, getD, replicate}
 use lib.Dec.{leb, eqb}
 use Rattle.limits.specs.Test.{_&_, pick}
 use Rattle.limits.specs.Size.{headerOctets, addressOctets}
-use Rattle.limits.specs.declared.outcome.Outcome.{Outcome}
 use Rattle.limits.specs.declared.outcome.Outcome.the-variants.{Done, Silent}
 use Rattle.octets.specs.Number.{three}
 use Rattle.model.specs.declared.Point.{Point}
 use Rattle.model.specs.Place.{isCounter, withValue}
-use Rattle.table.specs.Table.{Station, Table}
+use Rattle.table.specs.Table.{Table}
 use Rattle.table.specs.Settings.{limitOf}
 use Rattle.table.specs.Change.{stationOf, withPoints, withStations, changed, pointIn}
 use Rattle.asdu.specs.Cause.{request, activation, activationConfirmation, activationTermination, interrogation, counterInterrogation}
@@ -26,7 +25,7 @@ use Rattle.asdu.specs.Command.{readAs, outcomeOf}
 use Rattle.asdu.specs.Confirmation.{confirmation, echo}
 use Rattle.report.specs.declared.Selection.{Selection}
 use Rattle.report.specs.declared.Selection.the-variants.{Every, Group, CounterGroup}
-use Rattle.report.specs.Packing.{selected, joined}
+use Rattle.report.specs.Packing.{selected}
 use Rattle.report.specs.Selection.{selects, interrogationTypesOf, counterTypes}
 use Rattle.report.specs.Report.{report}
 use Rattle.report.specs.Order.{pointsFor, pointsOf}

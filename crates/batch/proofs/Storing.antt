@@ -21,7 +21,7 @@ use Rattle.registry.specs.Effect.{holding}
 use Rattle.registry.specs.Registry.{roomTests}
 use Rattle.registry.specs.History.{holdingOf}
 use Rattle.registry.proofs.Batches.{Ready, own-tests-ready, room-settings}
-use Rattle.records.specs.Records.{recordsIn, requestsIn}
+use Rattle.batch_records.specs.Records.{recordsIn, requestsIn}
 use Rattle.layout.specs.Layout.{mostPlaces, mostStations, pointsOffset, capacityIn, stationsIn, pointsIn, stationsFrom, sizeIn}
 use Rattle.sorting.specs.Sorted.{All, sorted}
 use Rattle.merging.specs.Merge.{merged, firstPlaces, Placed, withPlaces, placesOctets, Rises, placedFrom, numbersFrom, placedOf, Fits}

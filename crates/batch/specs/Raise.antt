@@ -10,7 +10,7 @@ use Rattle.octets.specs.Over.{over}
 use Rattle.octets.specs.Number.{pair}
 use Rattle.layout.specs.Layout.{stationSize, heldOffset, heldAt}
 use Rattle.table.specs.Memory.{wellFormed, tableOf}
-use Rattle.records.specs.Records.{requestsIn}
+use Rattle.batch_records.specs.Records.{requestsIn}
 use Rattle.registry.specs.Registry.{ownTests, roomTests}
 
 -- The n stations from `at`, the first of which has index i, hold what they took in besides.

@@ -1,4 +1,5 @@
 // The registration of a batch of points: every point's own tests, then the share rule, then all are stored, or none. From `actor.rs`.
+use batch_records::RECORD_OCTETS;
 use layout::HEAD_SIZE;
 use layout::HELD_OFFSET;
 use layout::MOST_PLACES;
@@ -8,14 +9,13 @@ use layout::POINTS_OFFSET;
 use layout::STATION_SIZE;
 use limits::outcome::Outcome;
 use octets::wide16;
-use records::RECORD_OCTETS;
 use registry::Reply;
 ghost use mathlib.Core.Path.{_≡_};
 ghost use Prim.Native.Nat.{_+_, _*_, _≤_};
 ghost use lib.ListN.{length};
 ghost use Rattle.layout.specs.Layout.{stationSize, mostPlaces, mostStations};
 ghost use Rattle.table.specs.Memory.{tableOf};
-ghost use Rattle.records.specs.Records.{requestsIn};
+ghost use Rattle.batch_records.specs.Records.{requestsIn};
 ghost use Rattle.merging.specs.Merge.{SortedNumbers};
 ghost use Rattle.batch_room.specs.Room.{TookIn};
 ghost use Rattle.batch.specs.Raise.{raised, Raisable, AllPass};

@@ -29,15 +29,15 @@ use Rattle.table.proofs.Stations.{sum-held, sum-unmet}
 use Rattle.table.proofs.Shares.{total-held, total-unmet}
 use Rattle.table.proofs.Change.{station-found, stations-split, insert-length}
 use Rattle.table.proofs.Cut.{total-at}
-use Rattle.seats.specs.declared.Seat.{Seat}
-use Rattle.seats.specs.declared.Seat.the-variants.{Here, NotPlanned}
-use Rattle.seats.specs.Seats.{seatIn, seatAt}
+use Rattle.lookup.specs.declared.Seat.{Seat}
+use Rattle.lookup.specs.declared.Seat.the-variants.{Here, NotPlanned}
+use Rattle.lookup.specs.Seats.{seatIn, seatAt}
 use Rattle.registry.specs.declared.Reply.{Reply}
 use Rattle.registry.specs.Effect.{Effect, refused}
 use Rattle.registry.specs.Registry.{admissionOutcome, roomFault, withRequest, roomTests}
 use Rattle.registry.specs.History.{Holding, holdingOf}
 use Rattle.registry.proofs.Requests.{admitted-is}
-use Rattle.records.proofs.Laws.{requests-on, requests-end}
+use Rattle.batch_records.proofs.Laws.{requests-on, requests-end}
 use Rattle.batch_room.specs.declared.Standing.{Standing}
 use Rattle.batch_room.specs.Room.{roomReply, shareWith, standingOf, stationAt, standingAt, takenAt, roomRun, takenRun, holdingWith, TookIn}
 use Rattle.batch_room.proofs.Lines.{linesAt, lines-start, Asked, asked, not-asked}

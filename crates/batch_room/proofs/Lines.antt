@@ -16,8 +16,8 @@ use Rattle.table.specs.Table.{Station, held, shareOf}
 use Rattle.table.specs.Memory.{pointsAt, stationsAt}
 use Rattle.table.specs.Change.{stationOf, inStation, withPoints}
 use Rattle.table.proofs.Points.{length-pointsAt}
-use Rattle.seats.specs.declared.Seat.the-variants.{Here, NotPlanned}
-use Rattle.seats.specs.Seats.{seatIn}
+use Rattle.lookup.specs.declared.Seat.the-variants.{Here, NotPlanned}
+use Rattle.lookup.specs.Seats.{seatIn}
 use Rattle.registry.specs.History.{Holding, holdingOf}
 use Rattle.batch_room.specs.Room.{shareWith}
 

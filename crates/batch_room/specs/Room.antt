@@ -11,9 +11,9 @@ use Rattle.limits.specs.declared.share.Share.{Share}
 use Rattle.limits.specs.declared.outcome.Outcome.the-variants.{Done, StationNotPlanned}
 use Rattle.layout.specs.Layout.{stationSize, stationsFrom}
 use Rattle.model.specs.declared.Request.{Request}
-use Rattle.seats.specs.declared.Seat.{Seat}
-use Rattle.seats.specs.declared.Seat.the-variants.{Here, NotPlanned}
-use Rattle.seats.specs.Seats.{seatAt}
+use Rattle.lookup.specs.declared.Seat.{Seat}
+use Rattle.lookup.specs.declared.Seat.the-variants.{Here, NotPlanned}
+use Rattle.lookup.specs.Seats.{seatAt}
 use Rattle.table.specs.Table.{Station, Table, held}
 use Rattle.wellformed.specs.Station.{shareAt}
 use Rattle.registry.specs.declared.Reply.{Reply}

@@ -1,17 +1,17 @@
 // The share rule over a batch, as if its points were registered one by one: numbers 19 and 20. The table is only read.
+use batch_records::RECORD_OCTETS;
 use layout::HEAD_SIZE;
 use layout::MOST_STATIONS;
 use layout::PLACE_SIZE;
 use limits::outcome::Outcome;
 use limits::share::Share;
-use records::RECORD_OCTETS;
+use lookup::Seat;
 use registry::Reply;
-use seats::Seat;
 ghost use mathlib.Core.Path.{_≡_};
 ghost use Prim.Native.Nat.{_+_, _-_, _≤_, _<_};
 ghost use lib.ListN.{length, replicate};
 ghost use Rattle.layout.specs.Layout.{stationSize, mostStations, stationsIn, sizeIn};
-ghost use Rattle.records.specs.Records.{requestsIn};
+ghost use Rattle.batch_records.specs.Records.{requestsIn};
 ghost use Rattle.table.specs.Memory.{tableOf};
 ghost use Rattle.batch_room.specs.Room.{shareWith, standingOf, Turned, AllTurned, roomReply, TookIn};
 
@@ -71,7 +71,7 @@ fn turn(
     requires { ⌜ (stationsIn (now m) ≤ mostStations) × (sizeIn (now m) ≤ length (now m)) ⌝ }
     ensures { λ r. ⌜ Turned (now (m .entry)) (now (taken .entry)) ca free unmet r (now (taken .exit)) ⌝ }
 {
-    let seat = seats::seat_at(m, ca);
+    let seat = lookup::seat_at(m, ca);
     let Seat::Here(index, _, _) = seat else {
         return Standing {
             outcome: Outcome::StationNotPlanned,

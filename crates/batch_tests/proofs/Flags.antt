@@ -11,7 +11,7 @@ use borrow.Author.Tests.{eqb-true, eqb-false}
 use Rattle.limits.specs.Test.{_&_, pick}
 use Rattle.limits.proofs.Tests.{both}
 use Rattle.octets.specs.Number.{two, four}
-use Rattle.records.specs.Records.{hasAddress, standsBefore}
+use Rattle.batch_records.specs.Records.{hasAddress, standsBefore}
 use Rattle.merging.specs.Merge.{Differ}
 use Rattle.batch_tests.specs.Tests.{addressFlag, flagAt}
 

@@ -17,14 +17,14 @@ use Rattle.model.proofs.Requests.Unplanned.{unknown, station}
 use Rattle.table.specs.Table.{Station, Table, rising}
 use Rattle.table.specs.Memory.{pointsAt}
 use Rattle.table.specs.Change.{stationOf, known, seekIn}
-use Rattle.seats.specs.declared.Spot.the-variants.{Held, Missing}
-use Rattle.seats.specs.Find.{spotIn, findAt}
-use Rattle.seats.proofs.Laws.{Seen}
-use Rattle.seats.proofs.Halving.{find-law}
+use Rattle.lookup.specs.declared.Spot.the-variants.{Held, Missing}
+use Rattle.lookup.specs.Find.{spotIn, findAt}
+use Rattle.lookup.proofs.Laws.{Seen}
+use Rattle.lookup.proofs.Halving.{find-law}
 use Rattle.registry.specs.Effect.{firstFault}
 use Rattle.registry.specs.Registry.{isPlanned, isRegistered, registeredFault, standsIn, batchFault, ownTests}
-use Rattle.records.specs.Records.{requestsIn, earlierAt}
-use Rattle.records.proofs.Laws.{requests-on, requests-end, earlier-on}
+use Rattle.batch_records.specs.Records.{requestsIn, earlierAt}
+use Rattle.batch_records.proofs.Laws.{requests-on, requests-end, earlier-on}
 use Rattle.batch_tests.specs.Tests.{isHeld}
 
 -- ---- one record

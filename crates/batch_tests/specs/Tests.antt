@@ -3,9 +3,9 @@ use Prim.Native.Nat.{ℕ, _+_, _*_, _%_}
 use mathlib.Core.List.{List}
 use mathlib.Core.Bool.{Bool, true, false}
 use Rattle.octets.specs.Number.{two, four}
-use Rattle.records.specs.Records.{recordOctets, ioaInRecord, standsBefore}
-use Rattle.seats.specs.declared.Spot.{Spot}
-use Rattle.seats.specs.declared.Spot.the-variants.{Held, Missing}
+use Rattle.batch_records.specs.Records.{recordOctets, ioaInRecord, standsBefore}
+use Rattle.lookup.specs.declared.Spot.{Spot}
+use Rattle.lookup.specs.declared.Spot.the-variants.{Held, Missing}
 
 -- Was the point found?
 abbrev pub isHeld : Spot → Bool

@@ -1,10 +1,10 @@
 // The tests 11 to 17 of a batch's points, in list order. The table is only read.
+use batch_records::IOA_IN_RECORD;
+use batch_records::RECORD_OCTETS;
 use limits::outcome::Outcome;
-use records::IOA_IN_RECORD;
-use records::RECORD_OCTETS;
+use lookup::Seat;
+use lookup::Spot;
 use registry::Reply;
-use seats::Seat;
-use seats::Spot;
 ghost use mathlib.Core.Path.{_≡_};
 ghost use mathlib.Core.Bool.{true, false};
 ghost use mathlib.Core.List.{[]};
@@ -15,8 +15,8 @@ ghost use Rattle.merging.specs.Merge.{Differ};
 ghost use Rattle.layout.specs.Layout.{placeSize};
 ghost use Rattle.model.specs.Request.{requestAt};
 ghost use Rattle.table.specs.Memory.{wellFormed, tableOf};
-ghost use Rattle.seats.specs.Find.{findAt};
-ghost use Rattle.records.specs.Records.{recordOctets, recordsIn, requestsIn, earlierAt, standsBefore};
+ghost use Rattle.lookup.specs.Find.{findAt};
+ghost use Rattle.batch_records.specs.Records.{recordOctets, recordsIn, requestsIn, earlierAt, standsBefore};
 ghost use Rattle.registry.specs.Registry.{batchFault, ownTests};
 ghost use Rattle.batch_tests.specs.Tests.{flagCount, isHeld, addressFlag, flagAt, comesAgain};
 
@@ -28,7 +28,7 @@ fn is_held(m: &[u8], first: usize, n: usize, ioa: usize) -> bool
     requires { ⌜ first + placeSize * n ≤ length (now m) ⌝ }
     ensures { λ r. ⌜ r ≡ isHeld (findAt (now (m .entry)) first n ioa) ⌝ }
 {
-    let spot = seats::find(m, first, n, ioa);
+    let spot = lookup::find(m, first, n, ioa);
     match spot {
         Spot::Held(_) => true,
         Spot::Missing(_) => false,
@@ -71,7 +71,7 @@ fn stands_flagged(records: &[u8], ca: usize, ioa: usize, n: usize, flag: u8) -> 
     if flag == 0 {
         return false;
     }
-    records::stands_before(records, ca, ioa, n)
+    batch_records::stands_before(records, ca, ioa, n)
 }
 
 // The first of the tests 11 to 17 that the record of place i fails: the earlier records of the batch count for 16, the table for 12 and 17.
@@ -83,7 +83,7 @@ fn fault_at(m: &[u8], records: &[u8], i: usize, flag: u8) -> Outcome
     let request = model::request_at(records, at);
     let ca = octets::two_at(records, at);
     let ioa = octets::four_at(records, at + IOA_IN_RECORD);
-    let seat = seats::seat_at(m, ca);
+    let seat = lookup::seat_at(m, ca);
     let Seat::Here(_, first, held) = seat else {
         return model::own_fault(false, request);
     };

@@ -1,7 +1,7 @@
 -- Three parts written one by one, the middle first, are the whole at the front; and so data between confirmation and termination are the answer.
 -- Assumes nothing.
 use mathlib.Core.Path.{_≡_, refl, sym, ap, ap₂, _∙_}
-use mathlib.Core.List.{List, [], _∷_, _++_, append-assoc}
+use mathlib.Core.List.{List, [], _++_, append-assoc}
 use mathlib.Core.Bool.{Bool, true, false}
 use Prim.Native.Nat.{ℕ, _+_, _-_, _≤_, _<_}
 use native.Mathlib.Omega.{arith}
@@ -11,7 +11,7 @@ use lib.Dec.{ltb}
 use borrow.Author.Tests.{ltb-true, ltb-false}
 use Rattle.limits.specs.Test.{pick}
 use Rattle.asdu.specs.declared.command.Command.{Command}
-use Rattle.asdu.specs.Header.{Asdu, asduOctets, wire}
+use Rattle.asdu.specs.Header.{asduOctets, wire}
 use Rattle.asdu.proofs.Laws.{wire-between}
 use Rattle.asdu.proofs.Lengths.{length-confirmation}
 use Rattle.report.specs.declared.Selection.{Selection}
@@ -24,7 +24,6 @@ use Rattle.table.specs.Memory.{wellFormed, tableOf, pointsAt}
 use Rattle.model.specs.declared.Point.{Point}
 use Rattle.report.specs.declared.Reach.{Reach}
 use Rattle.report.specs.declared.Terms.{Terms}
-use Rattle.asdu.specs.Joined.{joined}
 use Rattle.report.specs.Packing.{selected}
 use Rattle.report.specs.Selection.{selects}
 use Rattle.report.specs.Report.{report}

@@ -2,7 +2,7 @@
 --     lends-array      an array in a local  ⊢ ⇛ ∃ γ. own (the `&κ [R]` on it) ∗ the lender's part
 --     array-back       [†κ] ∗ the lender's part  ⊢ ⇛ room for the array
 -- Assumes `Given`.
-use mathlib.Core.Path.{_≡_, refl, sym, subst}
+use mathlib.Core.Path.{refl, sym, subst}
 use Prim.Native.Nat.{ℕ}
 use mathlib.Core.List.{List, [], _∷_}
 use lib.ListN.{length}

@@ -3,7 +3,6 @@ use clock::Clock;
 use clock::Told;
 use model::Request;
 use registry::Reply;
-ghost use mathlib.Core.Path.{_≡_};
 ghost use mathlib.Core.List.{map};
 ghost use Rattle.replies.specs.Replies.{Replies};
 ghost use Rattle.registry.specs.Registry.{registeringAll};

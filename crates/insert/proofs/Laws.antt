@@ -21,8 +21,8 @@ use Rattle.table.proofs.Stations.{length-bodies, length-entries}
 use Rattle.table.proofs.Parse.{Good, good-is, Laid, laid, parse-sound}
 use Rattle.table.proofs.Cut.{six, head-over, places-append, places-at, held-at, image-at}
 use Rattle.table.proofs.Change.{Found, stations-split, insert-length}
-use Rattle.seats.proofs.Laws.{Standing}
-use Rattle.seats.proofs.Halving.{seek-le}
+use Rattle.lookup.proofs.Laws.{Standing}
+use Rattle.lookup.proofs.Halving.{seek-le}
 use Rattle.insert.specs.Insert.{putIn, placed, HasRoom}
 
 -- ---- lists only: a place put in in one part, and two octets changed in another

@@ -1,4 +1,4 @@
-// A point put into its station's places. Where it goes is found before, by `seats::find`.
+// A point put into its station's places. Where it goes is found before, by `lookup::find`.
 use layout::HEAD_SIZE;
 use layout::HELD_OFFSET;
 use layout::PLACE_SIZE;

@@ -1,10 +1,9 @@
 -- The types of each report can be chained, each qualifier leads to its choice, and a choice that was taken has a cause. Assumes nothing.
-use mathlib.Core.Path.{_≡_, refl, sym, ap, subst, _∙_}
+use mathlib.Core.Path.{_≡_, refl, sym, ap, _∙_}
 use mathlib.Core.List.{List, [], _∷_}
 use mathlib.Core.Bool.{Bool, true, false}
 use Prim.Native.Nat.{ℕ, _+_, _-_, _/_, _%_, _≤_, _<_}
 use native.Mathlib.Omega.{arith}
-use lib.ListN.{length}
 use lib.Dec.{leb, ltb, eqb}
 use borrow.Author.Tests.{ltb-true, leb-true, eqb-true, eq-eqb, ne-eqb, le-leb, lt-leb}
 use Rattle.limits.specs.Test.{_&_, pick}
@@ -22,7 +21,7 @@ use Rattle.registry.specs.Effect.{holding}
 use Rattle.answers.specs.declared.Choice.{Choice}
 use Rattle.answers.specs.declared.Choice.the-variants.{Selected, Denied}
 use Rattle.answers.specs.Said.{withTable}
-use Rattle.answers.specs.System.{interrogated, chosen, choiceOf, counterCause, resets, resetBy, resetAt}
+use Rattle.answers.specs.System.{interrogated, chosen, counterCause, resets, resetBy, resetAt}
 use Rattle.interrogations.specs.Interrogations.{CauseOf}
 
 -- ---- the types

@@ -11,9 +11,9 @@ use Rattle.octets.specs.Number.{two, Octets}
 use Rattle.table.specs.Memory.{tableOf, wellFormed}
 use Rattle.table.proofs.Parse.{passed}
 use Rattle.asdu.specs.Header.{globalAddress}
-use Rattle.seats.specs.declared.Seat.{Seat}
-use Rattle.seats.specs.declared.Seat.the-variants.{Here, NotPlanned}
-use Rattle.seats.specs.Seats.{seatAt}
+use Rattle.lookup.specs.declared.Seat.{Seat}
+use Rattle.lookup.specs.declared.Seat.the-variants.{Here, NotPlanned}
+use Rattle.lookup.specs.Seats.{seatAt}
 use Rattle.report.specs.declared.Selection.{Selection}
 use Rattle.report.specs.declared.Reach.{Reach}
 use Rattle.output.specs.Reach.{seatReach, reachOf}

@@ -1,5 +1,5 @@
 -- What the handlers of the two interrogations ask of a command.
-use Prim.Native.Nat.{ℕ, _≤_, _<_}
+use Prim.Native.Nat.{ℕ, _<_}
 use mathlib.Core.List.{List}
 use lib.ListN.{length}
 use Rattle.asdu.specs.declared.command.Command.{Command}

@@ -11,7 +11,7 @@ use model::M_IT_TB_1;
 use report::Selection;
 ghost use mathlib.Core.Path.{_≡_};
 ghost use mathlib.Core.Bool.{true};
-ghost use Prim.Native.Nat.{_≤_, _<_};
+ghost use Prim.Native.Nat.{_<_};
 ghost use lib.ListN.{length};
 ghost use Rattle.limits.specs.Test.{pick};
 ghost use Rattle.limits.specs.Outcome.{isDone};

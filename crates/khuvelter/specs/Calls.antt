@@ -8,7 +8,7 @@ use Rattle.table.specs.Table.{Table}
 use Rattle.registry.specs.Effect.{Effect, replyOn, memoryOn}
 use Rattle.registry.specs.Registry.{registering, registeringAll, unregistering, unregisteringAll}
 use Rattle.registry.specs.Opening.{openOutcome, openedMemory}
-use Rattle.records.specs.Records.{requestsIn}
+use Rattle.batch_records.specs.Records.{requestsIn}
 use Rattle.answers.specs.Said.{Said, Lent, lent, answeredOn, lentAfter}
 use Rattle.answers.specs.System.{systemSaid}
 use Rattle.answers.specs.Process.{processSaid}

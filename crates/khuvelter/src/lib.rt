@@ -148,7 +148,7 @@ pub extern "C" fn khuvelter_unregister_all(table: &mut [u8]) -> Reply
 pub extern "C" fn khuvelter_connection_started(table: &[u8], answer: &mut [u8]) -> Reply
     ensures { λ r. ⌜ Meets (ask connectionStarted) (lent (now (table .entry)) [] (now (answer .entry)) []) r (lent (now (table .entry)) [] (now (answer .exit)) []) ⌝ }
 {
-    answer_reply(starting::connection_started(table, answer))
+    answer_reply(connection_start::connection_started(table, answer))
 }
 
 // The share of a station: 3, then 12.

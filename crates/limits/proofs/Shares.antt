@@ -1,15 +1,14 @@
 -- The laws of shares: demand 3 in numbers. First one share, over all numbers; then a gateway's shares under a capacity, which stay sound.
 -- A step at one station changes one summand of each sum, so each law of the list is the law of one share and linear arithmetic. Assumes nothing.
-use mathlib.Core.Path.{_≡_, refl, sym, ap, _∙_, subst}
+use mathlib.Core.Path.{_≡_, refl, subst}
 use mathlib.Core.List.{List, [], _∷_, _++_}
-use mathlib.Core.Bool.{Bool, true, false, _||_}
+use mathlib.Core.Bool.{Bool, true, false}
 use mathlib.Core.Logic.{_⊎_, inl, inr, ⊎-elim}
 use Prim.Native.Nat.{ℕ, _+_, _-_, _≤_, _<_}
 use native.Mathlib.Omega.{arith}
-use native.Mathlib.Decide.{decLt}
 use lib.Dec.{ltb}
 use borrow.Author.Tests.{lt-ltb, le-ltb, ltb-true, ltb-false}
-use Rattle.limits.specs.Test.{pick, total}
+use Rattle.limits.specs.Test.{total}
 use Rattle.limits.specs.Share.{heldOf, unmetOf, takenIn, letGo, admissionOf, admissionIn, freeOf, withinCeilings, Sound}
 use Rattle.limits.specs.declared.share.Share.{Share}
 use Rattle.limits.specs.declared.share.Admission.{Admission}

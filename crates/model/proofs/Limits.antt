@@ -1,5 +1,5 @@
 -- What the limits of a place say: a value's octets past its element are zero, and a counter group stands only on a counter. Assumes nothing.
-use mathlib.Core.Path.{_≡_, refl, sym, ap, ap₂, _∙_}
+use mathlib.Core.Path.{_≡_, refl, sym, ap, _∙_}
 use mathlib.Core.List.{List, [], _∷_, _++_, append-assoc}
 use mathlib.Core.Bool.{Bool, true, false, _||_}
 use Prim.Native.Nat.{ℕ, zero, suc, _+_, _*_, _-_, _≤_, _<_, min}
@@ -8,12 +8,12 @@ use native.Mathlib.Omega.{arith}
 use lib.ListN.{length, getD, set, replicate, length-append, length-replicate, List·getD-append}
 use lib.Seq.{getD-append-add, set-at}
 use lib.Dec.{leb, ltb, eqb}
-use borrow.Author.Tests.{leb-true, leb-false, le-leb, lt-leb, ltb-true, ltb-false, lt-ltb, le-ltb, eqb-true, eqb-false, eq-eqb, ne-eqb}
+use borrow.Author.Tests.{leb-true, le-leb, ltb-true, lt-ltb, le-ltb, eqb-true, eq-eqb}
 use Rattle.limits.specs.Test.{_&_, pick}
 use Rattle.limits.specs.Size.{pointOctets, valuesFrom, pointSizes}
 use Rattle.limits.proofs.Tests.{both, join}
 use Rattle.limits.proofs.Sizes.{length-values, values-at, point-at-most, point-sizes}
-use Rattle.octets.specs.Number.{Octets, two, three, four, eight, twelve, zeros, number, power}
+use Rattle.octets.specs.Number.{Octets, four, eight, twelve, zeros, power}
 use Rattle.octets.proofs.Zero.{zeros-split}
 use Rattle.octets.proofs.Limit.{below-power, power-positive, four-number, eight-number}
 use Rattle.model.specs.Place.{isCounter}

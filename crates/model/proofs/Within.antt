@@ -1,8 +1,8 @@
 -- The test of a place by limits is the test of the point that it holds, and the turns of the loop over a station's places. Assumes nothing.
-use mathlib.Core.Path.{_≡_, refl, sym, ap, ap₂, _∙_, subst}
+use mathlib.Core.Path.{_≡_, refl, sym, ap, _∙_}
 use mathlib.Core.List.{List}
-use mathlib.Core.Bool.{Bool, true, false, _||_}
-use Prim.Native.Nat.{ℕ, zero, suc, _+_, _*_, _-_, _≤_, _<_}
+use mathlib.Core.Bool.{true, false, _||_}
+use Prim.Native.Nat.{ℕ, suc, _+_, _-_, _≤_, _<_}
 use native.Mathlib.Decide.{decLe}
 use native.Mathlib.Omega.{arith}
 use lib.ListN.{getD}
@@ -16,7 +16,7 @@ use Rattle.limits.proofs.Sizes.{point-beyond}
 use Rattle.octets.specs.Number.{Octets, two, three, four, eight, twelve, zeros}
 use Rattle.octets.proofs.Zero.{or-zero, zeros-split}
 use Rattle.octets.proofs.Limit.{number-zero, eight-number}
-use Rattle.model.specs.Place.{isCounter, valid, pointAt, placeOk, placesOk}
+use Rattle.model.specs.Place.{isCounter, valid, placeOk, placesOk}
 use Rattle.model.specs.Limits.{firstLimit, lastLimit, counterLimit}
 use Rattle.model.proofs.Limits.{same, element-limit, counter-limit}
 

@@ -1,7 +1,7 @@
 -- Octets read and written as numbers, low octet first, and the test for zeros.
 use Prim.Native.Nat.{ℕ, zero, suc, _+_, _*_, _/_, _%_, _<_}
 use mathlib.Core.List.{List, [], _∷_}
-use mathlib.Core.Bool.{Bool, true, false}
+use mathlib.Core.Bool.{Bool, true}
 use lib.ListN.{getD}
 use lib.Dec.{eqb}
 use Rattle.limits.specs.Test.{_&_}

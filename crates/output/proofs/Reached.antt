@@ -19,10 +19,10 @@ use Rattle.report.specs.declared.Reach.{Reach}
 use Rattle.report.specs.Packing.{joined}
 use Rattle.report.specs.Order.{byAddress, pointsOf, ownPoints, allPoints, pointsFor}
 use Rattle.report.proofs.Order.{points-own}
-use Rattle.seats.specs.declared.Seat.{Seat}
-use Rattle.seats.specs.declared.Seat.the-variants.{Here, NotPlanned}
-use Rattle.seats.specs.Seats.{seatAt}
-use Rattle.seats.proofs.Laws.{Seen, seat-law, absent-law}
+use Rattle.lookup.specs.declared.Seat.{Seat}
+use Rattle.lookup.specs.declared.Seat.the-variants.{Here, NotPlanned}
+use Rattle.lookup.specs.Seats.{seatAt}
+use Rattle.lookup.proofs.Laws.{Seen, seat-law, absent-law}
 use Rattle.output.specs.Data.{arranged}
 use Rattle.output.specs.Reach.{seatReach, reachOf}
 

@@ -6,9 +6,9 @@ use lib.Dec.{eqb}
 use Rattle.limits.specs.Test.{pick}
 use Rattle.layout.specs.Layout.{headSize, pointsIn}
 use Rattle.asdu.specs.Header.{globalAddress}
-use Rattle.seats.specs.declared.Seat.{Seat}
-use Rattle.seats.specs.declared.Seat.the-variants.{Here, NotPlanned}
-use Rattle.seats.specs.Seats.{seatAt}
+use Rattle.lookup.specs.declared.Seat.{Seat}
+use Rattle.lookup.specs.declared.Seat.the-variants.{Here, NotPlanned}
+use Rattle.lookup.specs.Seats.{seatAt}
 use Rattle.report.specs.declared.Reach.{Reach}
 
 -- a station's own places

@@ -1,9 +1,9 @@
 // The places that a common address speaks of: a station's, or under 65,535 those of every station.
 use asdu::header::GLOBAL_COMMON_ADDRESS;
 use layout::HEAD_SIZE;
+use lookup::Seat;
 use octets::wide16;
 use report::Reach;
-use seats::Seat;
 ghost use mathlib.Core.Path.{_≡_};
 ghost use Prim.Native.Nat.{_≤_};
 ghost use lib.ListN.{length};
@@ -40,5 +40,5 @@ pub fn reach_of(m: &[u8], ca: u16) -> Reach
             every: true,
         };
     }
-    seat_reach(seats::seat_at(m, wide16(ca)))
+    seat_reach(lookup::seat_at(m, wide16(ca)))
 }

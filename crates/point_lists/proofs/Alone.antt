@@ -3,7 +3,7 @@ use mathlib.Core.Path.{_≡_, sym, ap, _∙_}
 use mathlib.Core.List.{List, [], _∷_, append-nil}
 use Prim.Native.Nat.{ℕ}
 use Rattle.model.specs.declared.Request.{Request}
-use Rattle.records.specs.Records.{requestsIn}
+use Rattle.batch_records.specs.Records.{requestsIn}
 use Rattle.points.specs.Points.{flatRecord, flatRecords, whole}
 use Rattle.points.proofs.Records.{records-law}
 

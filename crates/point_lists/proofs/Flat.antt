@@ -8,7 +8,7 @@ use Rattle.registry.specs.declared.Reply.{Reply}
 use Rattle.registry.specs.Effect.{Effect, replyOn, memoryOn}
 use Rattle.replies.specs.Replies.{Replies}
 use Rattle.registry.specs.Registry.{registeringAll}
-use Rattle.records.specs.Records.{requestsIn}
+use Rattle.batch_records.specs.Records.{requestsIn}
 use Rattle.points.specs.Points.{flatRecords, whole}
 use Rattle.points.proofs.Records.{records-law}
 

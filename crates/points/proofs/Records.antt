@@ -18,7 +18,7 @@ use Rattle.model.specs.declared.Request.{Request}
 use Rattle.model.specs.Request.{givenGroup, requestAt, requestsAt}
 use Rattle.table.proofs.Points.{gets, gets-drop}
 use Rattle.registry.specs.History.{Twelve, AllTwelve}
-use Rattle.records.specs.Records.{requestsIn}
+use Rattle.batch_records.specs.Records.{requestsIn}
 use Rattle.registry.specs.declared.Reply.{Reply}
 use Rattle.registry.specs.Effect.{replyOn, memoryOn}
 use Rattle.registry.specs.Registry.{registeringAll}

@@ -4,7 +4,7 @@ use mathlib.Core.List.{List}
 use Prim.Native.Nat.{ℕ, _*_}
 use lib.ListN.{length, take}
 use Rattle.model.specs.declared.Request.{Request}
-use Rattle.records.specs.Records.{recordOctets, requestsIn}
+use Rattle.batch_records.specs.Records.{recordOctets, requestsIn}
 use Rattle.registry.specs.declared.Reply.{Reply}
 use Rattle.registry.specs.Effect.{replyOn, memoryOn}
 use Rattle.registry.specs.Registry.{registeringAll}

@@ -8,7 +8,7 @@ use Rattle.limits.specs.Test.{pick as choose}
 use Rattle.octets.specs.Over.{over}
 use Rattle.model.specs.declared.Request.{Request}
 use Rattle.model.specs.declared.Group.the-variants.{None}
-use Rattle.records.specs.Records.{recordOctets, recordsIn}
+use Rattle.batch_records.specs.Records.{recordOctets, recordsIn}
 use Rattle.points.specs.Points.{flatRecord}
 use Rattle.points.specs.declared.Taken.{Taken}
 

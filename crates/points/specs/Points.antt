@@ -8,7 +8,7 @@ use Rattle.layout.specs.Layout.{mostPlaces}
 use Rattle.model.specs.declared.Group.{Group}
 use Rattle.model.specs.declared.Group.the-variants.{None, Number}
 use Rattle.model.specs.declared.Request.{Request}
-use Rattle.records.specs.Records.{recordOctets}
+use Rattle.batch_records.specs.Records.{recordOctets}
 
 -- Is a group given: 0 no, 1 yes.
 abbrev pub hasOf : Group → ℕ

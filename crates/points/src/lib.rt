@@ -1,12 +1,12 @@
 // A batch as a slice of point records: each record is taken out of the slice and laid down as a flat record, the form that the batch entry reads.
+use batch_records::RECORD_OCTETS;
 use layout::MOST_PLACES;
 use model::Group;
 use model::Request;
-use records::RECORD_OCTETS;
 use registry::Reply;
 ghost use mathlib.Core.Path.{_≡_};
 ghost use Prim.Native.Nat.{_≤_};
-ghost use Rattle.records.specs.Records.{recordsIn};
+ghost use Rattle.batch_records.specs.Records.{recordsIn};
 ghost use Rattle.replies.specs.Replies.{Replies};
 ghost use Rattle.registry.specs.Registry.{registeringAll};
 ghost use Rattle.points.specs.Points.{hasOf, numberIn, flatRecord, decidingOctets, batchOf};

@@ -28,14 +28,14 @@ use Rattle.registry.specs.declared.Reply.{Reply as TableReply}
 use Rattle.registry.specs.Effect.{Effect, refused, accepted, firstFault, replyFrom, replyOn}
 use Rattle.registry.specs.Registry.{isPlanned, isRegistered, admissionOutcome, roomFault, registeredFault, requestOutcome, withRequest, registering, standsIn, batchFault, ownTests, roomTests, registeringAll, unregistering, unregisteringAll}
 use Rattle.registry.specs.Opening.{opens}
-use Rattle.records.specs.Records.{requestsIn}
+use Rattle.batch_records.specs.Records.{requestsIn}
 use Rattle.asdu.specs.declared.command.Command.{Command}
 use Rattle.asdu.specs.declared.command.Reading.{Reading}
 use Rattle.asdu.specs.declared.command.Reading.the-variants.{LengthOutOfRange, TypeNotServed, ObjectsNotWhole, Parsed}
 use Rattle.asdu.specs.Header.{Asdu}
 use Rattle.asdu.proofs.Laws.{wire-none}
 use Rattle.answers.specs.Said.{Said, Lent, size, fits, outcomeWith, answeredFrom, answeredOn}
-use Rattle.answers.specs.System.{isSilent, interrogationType, countersType, readType, clockType, commandSaid, systemFrom, systemSaid}
+use Rattle.answers.specs.System.{isSilent, interrogationType, countersType, readType, commandSaid, systemFrom, systemSaid}
 use Rattle.answers.specs.Process.{Proposal, processCauseTaken, proposalOk, processFrom, processSaid}
 use Rattle.answers.specs.Start.{startSaid}
 use Rattle.commands.specs.Entry.{proposalOf}

@@ -22,8 +22,8 @@ use Rattle.registry.specs.History.Call.{register, registerAll, unregister, comm
 use Rattle.registry.specs.History as registry
 use Rattle.registry.proofs.Histories.{SamePlan, keeps}
 use Rattle.opening.proofs.Fresh.{table-octets}
-use Rattle.records.specs.Records.{requestsIn}
-use Rattle.records.proofs.Laws.{all-twelve}
+use Rattle.batch_records.specs.Records.{requestsIn}
+use Rattle.batch_records.proofs.Laws.{all-twelve}
 use Rattle.answers.specs.Said.{Lent}
 use Rattle.answers.proofs.Common.{effectIn, command-effect}
 use Rattle.answers.proofs.Quiet.{start-quiet, system-quiet, process-quiet, updates-whole}

@@ -28,8 +28,8 @@ use Rattle.registry.specs.History.Call.{command}
 use Rattle.registry.proofs.Batches.{own-tests-ready, turn-good}
 use Rattle.registry.proofs.Histories.{After, history, station-numbers, below-reservation-has-room, granted-alone}
 use Rattle.opening.proofs.Fresh.{opens-good, opened-parses, refused as refused-opening}
-use Rattle.records.specs.Records.{requestsIn}
-use Rattle.records.proofs.Laws.{all-twelve}
+use Rattle.batch_records.specs.Records.{requestsIn}
+use Rattle.batch_records.proofs.Laws.{all-twelve}
 use Rattle.answers.specs.Said.{Lent}
 use Rattle.answers.proofs.Common.{effectIn, command-effect}
 use Rattle.khuvelter.specs.Calls.{Call, saidBy, replyTo, leftBy}

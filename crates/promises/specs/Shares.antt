@@ -22,7 +22,7 @@ use Rattle.registry.specs.Effect.{replyOn}
 use Rattle.registry.specs.Registry.{isPlanned, isRegistered, roomFault, withRequest, ownTests, registeringAll}
 use Rattle.registry.specs.Opening.{planned, opens, openedMemory}
 use Rattle.registry.specs.History.{Line, lineOf, Tally, atOpening, requestsOf, heldAt}
-use Rattle.records.specs.Records.{requestsIn}
+use Rattle.batch_records.specs.Records.{requestsIn}
 use Rattle.answers.specs.Said.{Lent, lent}
 use Rattle.khuvelter.specs.declared.Reply.{Reply}
 use Rattle.khuvelter.specs.Calls.{Change, Call, replyTo, leftBy}

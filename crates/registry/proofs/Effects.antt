@@ -1,13 +1,12 @@
 -- The common last step of every entry: a refusal leaves the memory as it was, and what is stored is read back. Assumes nothing.
-use mathlib.Core.Path.{_≡_, refl, sym, ap, _∙_}
-use mathlib.Core.List.{List, _++_}
+use mathlib.Core.Path.{_≡_, refl, ap, _∙_}
+use mathlib.Core.List.{List}
 use mathlib.Core.Bool.{Bool, true, false}
 use mathlib.Core.Option.{Option, none, some}
 use Prim.Native.Nat.{ℕ}
 use lib.ListN.{length, drop}
 use Rattle.limits.specs.Test.{pick}
 use Rattle.limits.specs.Outcome.{isDone}
-use Rattle.limits.proofs.Outcomes.{not-both}
 use Rattle.table.specs.Table.{Table, image, good}
 use Rattle.table.specs.Memory.{parse}
 use Rattle.table.proofs.Parse.{parse-complete}

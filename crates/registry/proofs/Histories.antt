@@ -1,42 +1,38 @@
 -- Demand 3: from a table opened under a valid plan, after any calls. Each call keeps the table good, the plan and K as they were, and the tally
 -- of every station equal to what it holds; the history theorem is the induction over the calls. Assumes nothing.
-use mathlib.Core.Path.{_≡_, refl, sym, ap, ap₂, _∙_, subst}
+use mathlib.Core.Path.{_≡_, refl, sym, ap, _∙_, subst}
 use mathlib.Core.List.{List, [], _∷_, _++_, map}
 use mathlib.Core.Bool.{Bool, true, false}
 use mathlib.Core.Option.{Option, none, some}
-use mathlib.Core.Logic.{inl}
-use Prim.Native.Nat.{ℕ, suc, _+_, _-_, _≤_, _<_}
+use Prim.Native.Nat.{ℕ, _+_, _-_, _≤_, _<_}
 use native.Mathlib.Omega.{arith}
 use lib.ListN.{length}
-use lib.Dec.{leb, eqb}
-use borrow.Author.Tests.{leb-true, eqb-true}
-use Rattle.limits.specs.Test.{_&_, pick, total}
+use lib.Dec.{eqb}
+use borrow.Author.Tests.{leb-true}
+use Rattle.limits.specs.Test.{_&_, pick}
 use Rattle.limits.specs.Outcome.{isDone}
 use Rattle.limits.specs.Share.{admissionIn, Sound}
 use Rattle.limits.specs.declared.share.Share.{Share}
 use Rattle.limits.specs.declared.share.Admission.the-variants.{Admitted}
-use Rattle.limits.specs.declared.outcome.Outcome.{Outcome}
-use Rattle.limits.specs.declared.outcome.Outcome.the-variants.{Done, NotRegistered}
+use Rattle.limits.specs.declared.outcome.Outcome.the-variants.{Done}
 use Rattle.limits.proofs.Tests.{both}
 use Rattle.limits.proofs.Outcomes.{not-both, first-done, done-is}
 use Rattle.limits.proofs.Shares.{below-reservation-admitted}
 use Rattle.model.specs.declared.Point.{Point}
 use Rattle.model.specs.declared.Request.{Request}
-use Rattle.model.specs.Place.{pointOk}
-use Rattle.model.specs.Request.{ownFault, pointOf}
-use Rattle.table.specs.Table.{Station, Table, held, shareOf, numbersOk, planOk, good}
+use Rattle.table.specs.Table.{Station, Table, held, shareOf, numbersOk, planOk}
 use Rattle.table.specs.Memory.{parse}
 use Rattle.table.specs.Change.{stationOf, inStation, withPoints, changed, known, added, removed, emptied}
 use Rattle.table.proofs.Parse.{Good, good-is, is-good}
 use Rattle.table.proofs.Shares.{good-sound}
-use Rattle.table.proofs.Change.{Found, station-found, shares-split, good-removed, good-emptied}
-use Rattle.registry.specs.Effect.{Effect, next, replyFrom, replyOn, memoryOn, memoryFrom}
-use Rattle.registry.specs.Registry.{isPlanned, isRegistered, admissionOutcome, roomFault, registeredFault, requestOutcome, withRequest, ownTests, roomTests, registering, registeringAll, unregistering, unregisteringAll}
-use Rattle.registry.specs.History.{Holding, holdingOf, Line, lineOf, Quiet, Twelve, AllTwelve, Call, effectOf, requestsOf, Tally, grantedBy, removedBy, counted, heldBy, heldAt, memoryAfter, tallyAfter, atOpening}
+use Rattle.table.proofs.Change.{station-found, shares-split, good-removed, good-emptied}
+use Rattle.registry.specs.Effect.{Effect, next, replyFrom, replyOn, memoryOn}
+use Rattle.registry.specs.Registry.{isRegistered, admissionOutcome, roomFault, requestOutcome, withRequest, ownTests, roomTests, registering, registeringAll, unregistering, unregisteringAll}
+use Rattle.registry.specs.History.{Holding, holdingOf, Line, lineOf, Quiet, Twelve, AllTwelve, Call, effectOf, requestsOf, Tally, grantedBy, removedBy, counted, heldBy, heldAt, memoryAfter, tallyAfter}
 use Rattle.registry.specs.History.Call.{register, registerAll, unregister, unregisterAll, command}
 use Rattle.registry.proofs.Effects.{parse-after}
-use Rattle.registry.proofs.Requests.{Accepted, accepted-good, held-added, held-removed, held-emptied, planned-is, unregistered-is}
-use Rattle.registry.proofs.Batches.{Passes, passes-accepted, own-tests-ready, room-tests-good, Turn, turn-good}
+use Rattle.registry.proofs.Requests.{Accepted, accepted-good, held-added, held-removed, held-emptied, unregistered-is}
+use Rattle.registry.proofs.Batches.{Passes, passes-accepted, own-tests-ready, room-tests-good}
 
 -- ---- a station of a good table
 

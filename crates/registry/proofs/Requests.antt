@@ -1,33 +1,32 @@
 -- Registration of one point and removal: an accepted request makes a good table, one held more or less at its own station, the rest as it was.
 -- Assumes nothing.
-use mathlib.Core.Path.{_≡_, refl, sym, ap, _∙_, subst}
-use mathlib.Core.List.{List, [], _∷_, _++_, map}
+use mathlib.Core.Path.{_≡_, refl, sym, ap, _∙_}
+use mathlib.Core.List.{List, [], _∷_, map}
 use mathlib.Core.Bool.{Bool, true, false}
 use mathlib.Core.Option.{Option, none, some}
-use Prim.Native.Nat.{ℕ, _+_, _≤_, _<_}
+use Prim.Native.Nat.{ℕ, _+_}
 use native.Mathlib.Omega.{arith}
 use lib.ListN.{length}
 use lib.Dec.{eqb}
 use borrow.Author.Tests.{eqb-true, eqb-false}
-use Rattle.limits.specs.Test.{_&_, pick}
+use Rattle.limits.specs.Test.{pick}
 use Rattle.limits.specs.Outcome.{isDone}
 use Rattle.limits.specs.Share.{admissionIn}
 use Rattle.limits.specs.declared.share.Admission.{Admission}
 use Rattle.limits.specs.declared.share.Admission.the-variants.{Admitted, NoRoom}
 use Rattle.limits.specs.declared.share.Admission.the-variants as admission
-use Rattle.limits.specs.declared.outcome.Outcome.{Outcome}
 use Rattle.limits.specs.declared.outcome.Outcome.the-variants.{Done, AlreadyRegistered}
-use Rattle.limits.proofs.Outcomes.{not-both, first-done}
+use Rattle.limits.proofs.Outcomes.{not-both}
 use Rattle.model.specs.declared.Point.{Point}
 use Rattle.model.specs.declared.Request.{Request}
 use Rattle.model.specs.Place.{pointOk}
 use Rattle.model.specs.Request.{ownFault, pointOf}
-use Rattle.model.proofs.Requests.{Faultless, faultless, done-point}
+use Rattle.model.proofs.Requests.{faultless, done-point}
 use Rattle.table.specs.Table.{Station, Table, held, shareOf}
-use Rattle.table.specs.Change.{stationOf, inStation, withPoints, changed, known, insertIn, removeIn, added, removed, emptied}
+use Rattle.table.specs.Change.{stationOf, withPoints, changed, known, insertIn, removeIn, added, removed}
 use Rattle.table.proofs.Parse.{Good}
-use Rattle.table.proofs.Change.{Found, station-found, good-added, good-removed, changed-station, other-station, insert-length, remove-length}
-use Rattle.registry.specs.Registry.{isPlanned, isRegistered, admissionOutcome, roomFault, registeredFault, requestOutcome, withRequest}
+use Rattle.table.proofs.Change.{station-found, good-added, changed-station, other-station, insert-length, remove-length}
+use Rattle.registry.specs.Registry.{isPlanned, isRegistered, admissionOutcome, registeredFault, withRequest}
 use Rattle.registry.specs.History.{Twelve, heldBy, heldAt}
 
 -- ---- what an accepted request says

@@ -2,7 +2,6 @@
 -- Document 01, 'Numbers given back': every number but 0 writes nothing anywhere.
 use Prim.Native.Nat.{ℕ}
 use mathlib.Core.List.{List, _++_}
-use mathlib.Core.Bool.{Bool}
 use mathlib.Core.Option.{Option, none, some}
 use lib.ListN.{length, drop}
 use Rattle.limits.specs.Test.{pick}

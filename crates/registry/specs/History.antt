@@ -3,11 +3,11 @@
 use mathlib.Core.Path.{_≡_}
 use Prim.Native.Nat.{ℕ, _+_, _-_}
 use mathlib.Core.List.{List, [], _∷_, map}
-use mathlib.Core.Bool.{Bool, true, false}
+use mathlib.Core.Bool.{true}
 use mathlib.Core.Option.{Option, none, some}
 use lib.ListN.{length}
 use lib.Dec.{eqb}
-use Rattle.limits.specs.Test.{_&_, pick, total}
+use Rattle.limits.specs.Test.{_&_, pick}
 use Rattle.limits.specs.Outcome.{isDone}
 use Rattle.model.specs.declared.Request.{Request}
 use Rattle.table.specs.Table.{Station, Table, good}

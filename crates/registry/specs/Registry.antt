@@ -13,7 +13,6 @@ use Rattle.limits.specs.declared.share.Admission.the-variants.{Admitted, NoRoom
 use Rattle.limits.specs.declared.share.Admission.the-variants as admission
 use Rattle.limits.specs.declared.outcome.Outcome.{Outcome}
 use Rattle.limits.specs.declared.outcome.Outcome.the-variants.{Done, TableNotWellFormed, StationNotPlanned, AddressTwice, AlreadyRegistered, NotRegistered, CeilingReached, NotAdmitted}
-use Rattle.model.specs.declared.Point.{Point}
 use Rattle.model.specs.declared.Request.{Request}
 use Rattle.model.specs.Request.{ownFault, pointOf}
 use Rattle.table.specs.Table.{Station, Table, held, unmet, shareOf}

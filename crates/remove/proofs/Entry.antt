@@ -14,12 +14,12 @@ use Rattle.table.specs.Table.{Station, Table, held, rising, image}
 use Rattle.table.specs.Memory.{pointsAt, tableOf, wellFormed}
 use Rattle.table.specs.Change.{stationOf, seekIn, known, removed, emptied}
 use Rattle.table.proofs.Parse.{holds, parse-some}
-use Rattle.seats.specs.declared.Seat.the-variants.{Here}
-use Rattle.seats.specs.declared.Spot.the-variants.{Held}
-use Rattle.seats.specs.Seats.{seatAt}
-use Rattle.seats.specs.Find.{findAt}
-use Rattle.seats.proofs.Laws.{Seated, Seen, seat-law, Standing, standing}
-use Rattle.seats.proofs.Halving.{HeldAt, held-law}
+use Rattle.lookup.specs.declared.Seat.the-variants.{Here}
+use Rattle.lookup.specs.declared.Spot.the-variants.{Held}
+use Rattle.lookup.specs.Seats.{seatAt}
+use Rattle.lookup.specs.Find.{findAt}
+use Rattle.lookup.proofs.Laws.{Seated, Seen, seat-law, Standing, standing}
+use Rattle.lookup.proofs.Halving.{HeldAt, held-law}
 use Rattle.remove.specs.Remove.{takenOut, allTakenOut, Removable}
 use Rattle.remove.proofs.Removed.{take-out-bounds, taken-out-parsed}
 use Rattle.remove.proofs.Emptied.{take-all-out-bounds, all-taken-out-parsed}

@@ -22,7 +22,7 @@ use Rattle.table.proofs.Stations.{length-bodies, length-entries}
 use Rattle.table.specs.Memory.{parse}
 use Rattle.table.proofs.Parse.{Good, good-is, Laid, laid, parse-sound}
 use Rattle.table.proofs.Change.{Found, stations-split, station-rises}
-use Rattle.seats.proofs.Laws.{Standing}
+use Rattle.lookup.proofs.Laws.{Standing}
 use Rattle.remove.specs.Remove.{closedUp, takenOut, Removable}
 use Rattle.table.proofs.Cut.{six, head-over, places-append, places-at, held-at, image-at}
 

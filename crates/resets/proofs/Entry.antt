@@ -17,9 +17,9 @@ use Rattle.table.specs.Change.{withStations, stationOf, inStation, withPoints, 
 use Rattle.table.proofs.Parse.{holds, passed, printed}
 use Rattle.table.proofs.Change.{Absent, station-absent}
 use Rattle.table.proofs.Change.Absent.{absent-none, absent-more}
-use Rattle.seats.specs.declared.Seat.the-variants.{Here, NotPlanned}
-use Rattle.seats.specs.Seats.{seatAt}
-use Rattle.seats.proofs.Laws.{Seated, Seen, seat-law, absent-law}
+use Rattle.lookup.specs.declared.Seat.the-variants.{Here, NotPlanned}
+use Rattle.lookup.specs.Seats.{seatAt}
+use Rattle.lookup.proofs.Laws.{Seated, Seen, seat-law, absent-law}
 use Rattle.registry.specs.Effect.{holding}
 use Rattle.asdu.specs.Header.{globalAddress}
 use Rattle.report.specs.declared.Selection.{Selection}

@@ -23,8 +23,8 @@ use Rattle.answers.specs.declared.Answered.{Answered}
 use Rattle.answers.specs.Said.{size, nothing, given, Sends}
 use Rattle.answers.specs.System.{echoed, pointsRead, readAnswer}
 use Rattle.answers.proofs.Ends.{sends-nothing, sends-all, sends-along}
-use Rattle.reads.specs.Reads.{requestedBy}
-use Rattle.reads.proofs.Entry.{Requested}
+use Rattle.read_data.specs.Reads.{requestedBy}
+use Rattle.read_data.proofs.Entry.{Requested}
 
 -- Two parts, one after another.
 pub one-after-another : (m E D : List ℕ) (e : ℕ) → length E ≡ e → e + length D ≤ length m → over (over m 0 E) e D ≡ over m 0 (E ++ D)

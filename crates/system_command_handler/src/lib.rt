@@ -14,8 +14,8 @@ use asdu::types_id::C_RD_NA_1;
 use limits::outcome::Outcome;
 use limits::size::ADDRESS_OCTETS;
 use limits::size::HEADER_OCTETS;
-use reads::Asked;
-use seats::Seat;
+use lookup::Seat;
+use read_data::Asked;
 ghost use mathlib.Core.Path.{_≡_};
 ghost use mathlib.Core.Bool.{true, false};
 ghost use mathlib.Core.List.{[], _∷_};
@@ -46,10 +46,10 @@ fn handle_read(answer: &mut [u8], table: &[u8], command: Command, asdu: &[u8]) -
     requires { ⌜ (wellFormed (now table) ≡ true) × (0 < command .count) × (command .count ≤ countLimit) × (command .element ≡ 0) × (length (now asdu) ≡ objectAt 0 (command .count)) ⌝ }
     ensures { λ r. ⌜ Sends (readAnswer command (now (asdu .entry)) (pointsRead command (now (asdu .entry)) (tableOf (now (table .entry))))) (now (answer .entry)) r (now (answer .exit)) ⌝ }
 {
-    let Seat::Here(_, first, h) = seats::seat_at(table, command.ca as usize) else {
+    let Seat::Here(_, first, h) = lookup::seat_at(table, command.ca as usize) else {
         return confirming::echo(answer, command, asdu, true);
     };
-    let Asked::Known(octets) = reads::read_octets(table, first, h, command, asdu) else {
+    let Asked::Known(octets) = read_data::read_octets(table, first, h, command, asdu) else {
         return confirming::echo(answer, command, asdu, true);
     };
     let before = asdu.len();
@@ -60,7 +60,7 @@ fn handle_read(answer: &mut [u8], table: &[u8], command: Command, asdu: &[u8]) -
         return Answered::nothing(Outcome::AnswerShort);
     }
     confirmation::put_echo(answer, command, asdu, cot::ACTIVATION_CONFIRMATION, false);
-    Answered::given(reads::put_requested(answer, before, table, first, h, command, asdu))
+    Answered::given(read_data::put_requested(answer, before, table, first, h, command, asdu))
 }
 
 // ---- the clock

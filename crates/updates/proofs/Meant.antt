@@ -18,14 +18,14 @@ use Rattle.table.specs.Change.{stationOf, seekIn, pointIn, known}
 use Rattle.table.proofs.Parse.{passed}
 use Rattle.table.proofs.Change.{Found}
 use Rattle.report.specs.Order.{pointsOf}
-use Rattle.seats.specs.declared.Seat.{Seat}
-use Rattle.seats.specs.declared.Seat.the-variants.{Here, NotPlanned}
-use Rattle.seats.specs.declared.Spot.{Spot}
-use Rattle.seats.specs.declared.Spot.the-variants.{Held, Missing}
-use Rattle.seats.specs.Seats.{seatAt}
-use Rattle.seats.specs.Find.{findAt}
-use Rattle.seats.proofs.Laws.{Seated, Seen, seat-law, absent-law}
-use Rattle.seats.proofs.Halving.{HeldAt, held-law, missing-law}
+use Rattle.lookup.specs.declared.Seat.{Seat}
+use Rattle.lookup.specs.declared.Seat.the-variants.{Here, NotPlanned}
+use Rattle.lookup.specs.declared.Spot.{Spot}
+use Rattle.lookup.specs.declared.Spot.the-variants.{Held, Missing}
+use Rattle.lookup.specs.Seats.{seatAt}
+use Rattle.lookup.specs.Find.{findAt}
+use Rattle.lookup.proofs.Laws.{Seated, Seen, seat-law, absent-law}
+use Rattle.lookup.proofs.Halving.{HeldAt, held-law, missing-law}
 use Rattle.answers.specs.Process.{Update, updated, updateOf, revalued}
 use Rattle.updates.specs.declared.Target.the-variants.{Place, Skipped}
 use Rattle.updates.specs.Updates.{targetOn, targetIn, targetAt}

@@ -11,12 +11,12 @@ use Rattle.octets.specs.Over.{over}
 use Rattle.layout.specs.Layout.{valueOffset, valueSize}
 use Rattle.asdu.specs.Header.{wire}
 use Rattle.asdu.specs.Puts.{PutsAt}
-use Rattle.seats.specs.declared.Seat.{Seat}
-use Rattle.seats.specs.declared.Seat.the-variants.{Here, NotPlanned}
-use Rattle.seats.specs.declared.Spot.{Spot}
-use Rattle.seats.specs.declared.Spot.the-variants.{Held, Missing}
-use Rattle.seats.specs.Seats.{seatAt}
-use Rattle.seats.specs.Find.{findAt}
+use Rattle.lookup.specs.declared.Seat.{Seat}
+use Rattle.lookup.specs.declared.Seat.the-variants.{Here, NotPlanned}
+use Rattle.lookup.specs.declared.Spot.{Spot}
+use Rattle.lookup.specs.declared.Spot.the-variants.{Held, Missing}
+use Rattle.lookup.specs.Seats.{seatAt}
+use Rattle.lookup.specs.Find.{findAt}
 use Rattle.table.specs.Memory.{tableOf, wellFormed}
 use Rattle.registry.specs.Effect.{holding}
 use Rattle.answers.specs.Process.{Update, updateOctets, updateAt, updatesAt, updateOf, tableWith, tableAfter, toldOf, toldBy}

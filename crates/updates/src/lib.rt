@@ -3,9 +3,9 @@ use asdu::cot;
 use layout::VALUE_OFFSET;
 use limits::size::ADDRESS_OCTETS;
 use limits::size::HEADER_OCTETS;
+use lookup::Seat;
+use lookup::Spot;
 use output::single;
-use seats::Seat;
-use seats::Spot;
 ghost use mathlib.Core.Path.{_≡_};
 ghost use mathlib.Core.Bool.{true};
 ghost use Prim.Native.Nat.{_+_, _*_, _≤_};
@@ -40,11 +40,11 @@ fn can_apply_update(m: &[u8], updates: &[u8], at: usize) -> Target
 {
     let ca = octets::two_at(updates, at);
     let ioa = octets::three_at(updates, at + UPDATE_IOA_OFFSET);
-    let seat = seats::seat_at(m, ca);
+    let seat = lookup::seat_at(m, ca);
     let Seat::Here(_, first, held) = seat else {
         return Target::Skipped;
     };
-    let spot = seats::find(m, first, held, ioa);
+    let spot = lookup::find(m, first, held, ioa);
     let Spot::Held(place) = spot else {
         return Target::Skipped;
     };

@@ -8,10 +8,10 @@ use Rattle.model.specs.declared.Point.{Point}
 use Rattle.octets.specs.Number.{Octets}
 use Rattle.table.specs.Memory.{wellFormed}
 use Rattle.table.proofs.Parse.{passed}
-use Rattle.seats.specs.Seats.{seatAt}
-use Rattle.seats.specs.Find.{findAt}
-use Rattle.seats.specs.declared.Seat.the-variants.{Here}
-use Rattle.seats.proofs.Laws.{seat-law}
+use Rattle.lookup.specs.Seats.{seatAt}
+use Rattle.lookup.specs.Find.{findAt}
+use Rattle.lookup.specs.declared.Seat.the-variants.{Here}
+use Rattle.lookup.proofs.Laws.{seat-law}
 use Rattle.actor.specs.Actor.{seatFault, offsetOf, roomAt}
 use Rattle.insert.specs.Insert.{placed}
 use Rattle.actor.proofs.Register.{register-own, register-room, register-done, register-bounds}

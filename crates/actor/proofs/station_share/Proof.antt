@@ -6,7 +6,7 @@ use denote.Ref.{now}
 use Rattle.octets.specs.Number.{Octets}
 use Rattle.table.specs.Memory.{wellFormed}
 use Rattle.table.proofs.Parse.{passed}
-use Rattle.seats.proofs.Laws.{seat-law}
+use Rattle.lookup.proofs.Laws.{seat-law}
 use Rattle.actor.proofs.Unregister.{share-no-table, share-absent, share-found}
 use borrow.Author.Needs.{needs}
 use native.Mathlib.Omega.{arith}

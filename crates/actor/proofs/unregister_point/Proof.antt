@@ -6,7 +6,7 @@ use denote.Ref.{now}
 use Rattle.octets.specs.Number.{Octets}
 use Rattle.table.specs.Memory.{wellFormed}
 use Rattle.table.proofs.Parse.{passed}
-use Rattle.seats.proofs.Laws.{seat-law}
+use Rattle.lookup.proofs.Laws.{seat-law}
 use Rattle.registry.specs.Registry.{unregistering}
 use Rattle.replies.proofs.Ways.{no-table}
 use Rattle.actor.proofs.Unregister.{out-absent, out-missing, out-done}

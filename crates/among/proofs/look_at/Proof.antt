@@ -1,8 +1,7 @@
 -- Each way out is one case of the definition. Assumes nothing.
 use borrow.Author.Needs.{needs}
 use borrow.Author.Tests.{eq-eqb, ne-eqb}
-use native.Mathlib.Omega.{arith}
-use mathlib.Core.Path.{_≡_, refl, sym, _∙_}
+use mathlib.Core.Path.{refl, sym, _∙_}
 use Rattle.among.specs.Fold.{looked, stepped}
 use Rattle.among.proofs.look_at.Statement.{statement}
 use Rattle.among.proofs.look_at.Tie as tie

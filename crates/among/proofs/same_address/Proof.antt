@@ -1,6 +1,5 @@
 -- Both numbers of the address. Assumes nothing.
-use borrow.Author.Needs.{needs}
-use borrow.Author.Tests.{eqb-true, eqb-false, eq-eqb, ne-eqb}
+use borrow.Author.Tests.{eq-eqb, ne-eqb}
 use Rattle.limits.specs.Test.{_&_}
 use Rattle.among.specs.Fold.{sameAddress}
 use Rattle.among.proofs.same_address.Statement.{statement}

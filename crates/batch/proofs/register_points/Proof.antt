@@ -12,7 +12,7 @@ use Rattle.table.specs.Memory.{wellFormed, tableOf}
 use Rattle.table.proofs.Parse.{passed}
 use Rattle.registry.specs.declared.Reply.{Reply}
 use Rattle.registry.specs.Registry.{ownTests}
-use Rattle.records.specs.Records.{requestsIn}
+use Rattle.batch_records.specs.Records.{requestsIn}
 use Rattle.replies.proofs.Ways.{no-table}
 use Rattle.batch.proofs.Entry.{own-refusal, room-refusal, has-room, stored-all}
 use Rattle.batch.proofs.register_points.Statement.{statement}

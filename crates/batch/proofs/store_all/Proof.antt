@@ -9,7 +9,7 @@ use lib.ListN.{take}
 use Rattle.octets.specs.Over.{over}
 use Rattle.octets.specs.Number.{pair}
 use Rattle.layout.specs.Layout.{pointsOffset, capacityIn, stationsIn, pointsIn, afterPlaces, stationsFrom}
-use Rattle.records.specs.Records.{recordsIn}
+use Rattle.batch_records.specs.Records.{recordsIn}
 use Rattle.sorting.specs.Sorted.{All, Ascending, sorted}
 use Rattle.sorting.proofs.Sorted.{sorted-ascending, sorted-all}
 use Rattle.merging.specs.Merge.{Rises, firstPlaces, numbersFrom, Fits, merged}

@@ -4,10 +4,9 @@ use mathlib.Core.Path.{_≡_, ap, _∙_}
 use mathlib.Core.List.{List}
 use Prim.Native.Nat.{ℕ, _-_}
 use denote.Ref.{now}
-use Rattle.layout.specs.Layout.{capacityIn, stationsIn, afterPlaces}
+use Rattle.layout.specs.Layout.{capacityIn, stationsIn, afterPlaces, heldAt}
 use Rattle.table.specs.Memory.{sumAt, unmetAt}
-use Rattle.layout.specs.Layout.{heldAt}
-use Rattle.records.specs.Records.{requestsIn}
+use Rattle.batch_records.specs.Records.{requestsIn}
 use Rattle.batch_room.specs.Room.{roomRun, takenRun}
 use Rattle.batch_room.proofs.Laws.{room-fresh, took-in}
 use Rattle.batch_room.proofs.room_tests.Statement.{statement}

@@ -4,14 +4,13 @@ use native.Mathlib.Omega.{arith}
 use borrow.Author.Tests.{not-true, not-false}
 use mathlib.Core.Path.{_≡_, sym, ap, _∙_, subst}
 use mathlib.Core.Bool.{true}
-use Prim.Native.Nat.{ℕ, _≤_, _<_}
+use Prim.Native.Nat.{ℕ, _<_}
 use denote.Ref.{now}
-use lib.ListN.{length, getD}
+use lib.ListN.{getD}
 use Rattle.limits.specs.Outcome.{isDone}
 use Rattle.limits.specs.declared.share.Share.{Share}
-use Rattle.layout.specs.Layout.{mostStations, stationsIn, sizeIn}
-use Rattle.seats.specs.Seats.{seatAt}
-use Rattle.seats.specs.declared.Seat.the-variants.{Here}
+use Rattle.lookup.specs.Seats.{seatAt}
+use Rattle.lookup.specs.declared.Seat.the-variants.{Here}
 use Rattle.batch_room.specs.declared.Standing.{Standing}
 use Rattle.batch_room.specs.Room.{shareWith, stationAt, standingOf}
 use Rattle.batch_room.proofs.Laws.{seat-inside, done-below, turn-unplanned, turn-refused, turn-done}

@@ -7,8 +7,8 @@ use Prim.Native.Nat.{ℕ, _*_, _-_, _≤_}
 use denote.Ref.{now}
 use lib.ListN.{length}
 use Rattle.model.specs.Request.{requestsAt}
-use Rattle.records.specs.Records.{requestsIn}
-use Rattle.seats.specs.Seats.{seatAt}
+use Rattle.batch_records.specs.Records.{requestsIn}
+use Rattle.lookup.specs.Seats.{seatAt}
 use Rattle.batch_room.specs.Room.{standingAt, takenAt, roomRun, takenRun}
 use Rattle.batch_room.proofs.Laws.{run-start, run-on, run-stop, run-end, taken-start, taken-on, taken-stop, taken-end}
 use Rattle.batch_room.proofs.turns.Statement.{statement}

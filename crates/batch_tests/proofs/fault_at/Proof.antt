@@ -12,13 +12,13 @@ use Rattle.model.specs.Request.{ownFault, requestAt}
 use Rattle.table.specs.Memory.{wellFormed, tableOf}
 use Rattle.table.specs.Change.{known}
 use Rattle.table.proofs.Parse.{passed}
-use Rattle.seats.specs.Seats.{seatAt}
-use Rattle.seats.specs.declared.Seat.the-variants.{NotPlanned}
-use Rattle.seats.specs.Find.{findAt}
-use Rattle.seats.proofs.Laws.{seat-law, absent-law}
+use Rattle.lookup.specs.Seats.{seatAt}
+use Rattle.lookup.specs.declared.Seat.the-variants.{NotPlanned}
+use Rattle.lookup.specs.Find.{findAt}
+use Rattle.lookup.proofs.Laws.{seat-law, absent-law}
 use Rattle.registry.specs.Registry.{standsIn}
-use Rattle.records.specs.Records.{earlierAt, standsBefore}
-use Rattle.records.proofs.Laws.{stands-law}
+use Rattle.batch_records.specs.Records.{earlierAt, standsBefore}
+use Rattle.batch_records.proofs.Laws.{stands-law}
 use Rattle.batch_tests.specs.Tests.{isHeld}
 use Rattle.batch_tests.proofs.Laws.{fault-unplanned, fault-own, fault-twice, fault-known, fault-none, held-known}
 use Rattle.batch_tests.proofs.fault_at.Statement.{statement}

@@ -13,7 +13,7 @@ use Rattle.limits.specs.declared.outcome.Outcome.{Outcome}
 use Rattle.model.specs.Request.{requestsAt}
 use Rattle.table.specs.Memory.{tableOf}
 use Rattle.registry.specs.Registry.{ownTests}
-use Rattle.records.specs.Records.{requestsIn, earlierAt}
+use Rattle.batch_records.specs.Records.{requestsIn, earlierAt}
 use Rattle.batch_tests.proofs.Flags.{Marked, marked-on, asked-says}
 use Rattle.batch_tests.proofs.Flags.Marked.{none-marked}
 use Rattle.batch_tests.proofs.Laws.{own-on, own-stop, own-end, own-start}

@@ -1,6 +1,6 @@
 -- Seven octets read one by one are the seven. Assumes nothing.
-use mathlib.Core.Path.{_≡_, refl, ap, _∙_}
-use Prim.Native.Nat.{ℕ, _≤_}
+use mathlib.Core.Path.{refl, ap, _∙_}
+use Prim.Native.Nat.{ℕ}
 use mathlib.Core.List.{List}
 use lib.Seq.{take-all}
 use Rattle.table.proofs.Points.{gets, gets-drop}

@@ -10,10 +10,9 @@ use Rattle.table.specs.Memory.{tableOf}
 use Rattle.table.specs.Settings.{limitOf}
 use Rattle.table.proofs.Parse.{passed}
 use Rattle.asdu.proofs.Lengths.{length-confirmation}
-use Rattle.asdu.specs.Header.{Asdu, wire}
+use Rattle.asdu.specs.Header.{wire}
 use Rattle.asdu.specs.Command.{firstElement}
 use Rattle.report.specs.declared.Reach.{Reach}
-use Rattle.report.specs.declared.Terms.{Terms}
 use Rattle.report.specs.Packing.{selected}
 use Rattle.report.specs.Selection.{selects}
 use Rattle.report.specs.Report.{report}

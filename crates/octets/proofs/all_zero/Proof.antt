@@ -1,6 +1,6 @@
 -- The OR of the octets read so far is zero, and those that are left are zeros: at every turn this says the same.
-use mathlib.Core.Path.{_≡_, refl, sym, ap, _∙_}
-use Prim.Native.Nat.{ℕ, _+_, _-_, _≤_, _<_}
+use mathlib.Core.Path.{_≡_, sym, ap, _∙_}
+use Prim.Native.Nat.{ℕ, _+_, _-_, _≤_}
 use denote.Ref.{now}
 use lib.Dec.{eqb}
 use lib.Bits.{bitOr}

@@ -1,8 +1,8 @@
 -- A turn lays one zero more over the memory: a copy of zeros, octet by octet.
-use mathlib.Core.Path.{_≡_, refl, sym, ap, _∙_}
-use Prim.Native.Nat.{ℕ, _+_, _-_, _≤_, _<_}
+use mathlib.Core.Path.{_≡_, refl, _∙_}
+use Prim.Native.Nat.{_-_, _≤_}
 use denote.Ref.{now}
-use lib.ListN.{length, drop, replicate, length-set}
+use lib.ListN.{length, replicate, length-set}
 use lib.Seq.{paste, paste-zero}
 use Rattle.octets.proofs.Laws.{clear-step, clear-done}
 use borrow.Author.Needs.{needs}

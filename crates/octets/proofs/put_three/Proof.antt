@@ -1,6 +1,5 @@
 -- The three octets of the number, copied in.
 use borrow.Author.Needs.{needs}
-use native.Mathlib.Omega.{arith}
 use Rattle.octets.proofs.put_three.Statement.{statement}
 use Rattle.octets.proofs.put_three.Tie as tie
 

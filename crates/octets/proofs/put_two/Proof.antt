@@ -1,6 +1,5 @@
 -- The two octets of the number, copied in.
 use borrow.Author.Needs.{needs}
-use native.Mathlib.Omega.{arith}
 use Rattle.octets.proofs.put_two.Statement.{statement}
 use Rattle.octets.proofs.put_two.Tie as tie
 

@@ -1,8 +1,8 @@
 -- A turn lays one octet more of what lies `by` higher over the memory; what is still to be read is as it was.
-use mathlib.Core.Path.{_≡_, refl, sym, ap, _∙_}
-use Prim.Native.Nat.{ℕ, _+_, _-_, _≤_, _<_}
+use mathlib.Core.Path.{_≡_, refl, _∙_}
+use Prim.Native.Nat.{_+_, _-_, _≤_}
 use denote.Ref.{now}
-use lib.ListN.{length, drop, replicate, length-set}
+use lib.ListN.{length, drop, length-set}
 use lib.Seq.{paste, paste-zero}
 use Rattle.octets.proofs.Laws.{down-step, down-done}
 use borrow.Author.Needs.{needs}

@@ -9,7 +9,7 @@ use Prim.Native.Nat.{ℕ}
 use denote.Ref.{now}
 use Rattle.limits.specs.Test.{pick as choose}
 use Rattle.table.specs.Memory.{wellFormed, tableOf}
-use Rattle.records.specs.Records.{requestsIn}
+use Rattle.batch_records.specs.Records.{requestsIn}
 use Rattle.registry.specs.declared.Reply.{Reply}
 use Rattle.registry.specs.Registry.{ownTests}
 use Rattle.point_lists.specs.Later.{withTwice, laterFault}

@@ -1,10 +1,9 @@
 -- The slice's own bound on its elements says that they are octets. Assumes nothing.
 use borrow.Author.Needs.{needs}
 use native.Mathlib.Omega.{arith}
-use mathlib.Core.Path.{_≡_, refl, sym, ap, _∙_}
+use mathlib.Core.Path.{refl, ap}
 use mathlib.Core.Bool.{Bool, not}
 use Rattle.limits.specs.declared.outcome.Outcome.the-variants.{Done}
-use Rattle.point_lists.specs.declared.Later.{Later}
 use Rattle.point_lists.proofs.start.Statement.{statement}
 use Rattle.point_lists.proofs.start.Tie as tie
 

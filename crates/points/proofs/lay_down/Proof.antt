@@ -1,5 +1,5 @@
 -- The test for room decides which way: the record laid down, or done. Assumes nothing.
-use mathlib.Core.Path.{_≡_, refl, ap, _∙_}
+use mathlib.Core.Path.{ap, _∙_}
 use mathlib.Core.List.{List}
 use Prim.Native.Nat.{ℕ, _*_}
 use denote.Ref.{now}
@@ -7,7 +7,6 @@ use borrow.Author.Tests.{lt-ltb, le-ltb}
 use Rattle.octets.specs.Over.{over}
 use Rattle.points.specs.Fold.{stepped}
 use borrow.Author.Needs.{needs}
-use native.Mathlib.Omega.{arith}
 use Rattle.points.proofs.lay_down.Statement.{statement}
 use Rattle.points.proofs.lay_down.Tie as tie
 

@@ -1,8 +1,7 @@
 -- The octets one by one, each group taken apart by its own function. Assumes nothing.
-use mathlib.Core.Path.{_≡_, refl}
+use mathlib.Core.Path.{refl}
 use Rattle.points.specs.Points.{flatRecord}
 use borrow.Author.Needs.{needs}
-use native.Mathlib.Omega.{arith}
 use Rattle.points.proofs.record_of.Statement.{statement}
 use Rattle.points.proofs.record_of.Tie as tie
 

@@ -7,7 +7,7 @@ use Rattle.octets.specs.Number.{Octets}
 use Rattle.table.proofs.Parse.{passed}
 use Rattle.asdu.specs.Command.{objectAt}
 use Rattle.answers.specs.Said.{size}
-use Rattle.reads.proofs.Entry.{Requested, read-bounds, requested-law, missing-address-law, unplanned-read-law}
+use Rattle.read_data.proofs.Entry.{Requested, read-bounds, requested-law, missing-address-law, unplanned-read-law}
 use Rattle.system_command_handler.proofs.Laws.{read-denied, read-short, read-written}
 use borrow.Author.Needs.{needs}
 use native.Mathlib.Omega.{arith}

@@ -5,8 +5,8 @@ use mathlib.Core.Path.{_≡_, sym, ap, _∙_}
 use Prim.Native.Nat.{_+_}
 use denote.Ref.{now}
 use Rattle.octets.specs.Number.{two, three, Octets}
-use Rattle.seats.specs.Seats.{seatAt}
-use Rattle.seats.specs.Find.{findAt}
+use Rattle.lookup.specs.Seats.{seatAt}
+use Rattle.lookup.specs.Find.{findAt}
 use Rattle.answers.specs.Process.{updateAt}
 use Rattle.updates.proofs.Meant.{table-bounds, seat-bounds, held-bounds, target-unplanned, target-missing, target-other, target-here}
 use Rattle.updates.proofs.can_apply_update.Statement.{statement}

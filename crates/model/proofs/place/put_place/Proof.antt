@@ -1,6 +1,5 @@
 -- The 48 octets of the place, copied in.
 use borrow.Author.Needs.{needs}
-use native.Mathlib.Omega.{arith}
 use Rattle.model.proofs.place.put_place.Statement.{statement}
 use Rattle.model.proofs.place.put_place.Tie as tie
 

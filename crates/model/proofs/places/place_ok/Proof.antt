@@ -1,13 +1,13 @@
 -- A test that fails contradicts what a good place is within; where all pass, the spare octets decide.
-use mathlib.Core.Path.{_≡_, refl, sym, ap, _∙_}
-use Prim.Native.Nat.{ℕ, _+_, _*_, _-_, _≤_, _<_}
+use mathlib.Core.Path.{_≡_, ap, _∙_}
+use Prim.Native.Nat.{ℕ, _+_}
 use denote.Ref.{now}
 use mathlib.Core.List.{List}
 use lib.ListN.{getD}
-use Rattle.octets.specs.Number.{Octets, two, three, four, eight}
+use Rattle.octets.specs.Number.{Octets}
 use Rattle.model.specs.Limits.{firstLimit, lastLimit, counterLimit, placeLimits}
 use Rattle.model.proofs.Limits.{first-at, last-at, counter-at}
-use Rattle.model.proofs.Within.{Within, refused, accepted}
+use Rattle.model.proofs.Within.{refused, accepted}
 use borrow.Author.Needs.{needs}
 use native.Mathlib.Omega.{arith}
 use Rattle.model.proofs.places.place_ok.Statement.{statement}

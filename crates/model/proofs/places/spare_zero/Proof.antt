@@ -1,12 +1,10 @@
 -- The OR of four numbers, which cover the 26 octets, is zero exactly if these are.
-use mathlib.Core.Path.{_≡_, refl, sym, ap, _∙_}
-use Prim.Native.Nat.{ℕ, _+_, _*_, _-_, _≤_, _<_}
+use mathlib.Core.Path.{_∙_}
 use denote.Ref.{now}
 use lib.Dec.{eqb}
 use lib.Bits.{bitOr}
 use Rattle.model.proofs.Within.{spare-is}
 use borrow.Author.Needs.{needs}
-use native.Mathlib.Omega.{arith}
 use Rattle.model.proofs.places.spare_zero.Statement.{statement}
 use Rattle.model.proofs.places.spare_zero.Tie as tie
 

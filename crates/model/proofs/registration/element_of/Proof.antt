@@ -1,6 +1,5 @@
 -- Zeros written past the element make the octets that are kept.
-use mathlib.Core.Path.{_≡_, refl, sym, ap, _∙_}
-use Prim.Native.Nat.{ℕ, _+_, _*_, _-_, _≤_, _<_}
+use mathlib.Core.Path.{_∙_}
 use Rattle.model.proofs.Requests.{element-over}
 use borrow.Author.Needs.{needs}
 use native.Mathlib.Omega.{arith}

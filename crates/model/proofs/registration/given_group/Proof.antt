@@ -1,8 +1,5 @@
 -- By the octet that says whether there is a group.
-use lib.Dec.{leb, eqb}
-use borrow.Author.Tests.{le-leb, lt-leb, eq-eqb, ne-eqb, not-true, not-false}
-use borrow.Author.Needs.{needs}
-use native.Mathlib.Omega.{arith}
+use borrow.Author.Tests.{eq-eqb, ne-eqb}
 use Rattle.model.proofs.registration.given_group.Statement.{statement}
 use Rattle.model.proofs.registration.given_group.Tie as tie
 

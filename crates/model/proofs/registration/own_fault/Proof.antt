@@ -1,8 +1,7 @@
 -- Each return is the first test that fails, those before it having passed.
-use mathlib.Core.Path.{_≡_, refl, sym, ap, _∙_}
-use Prim.Native.Nat.{ℕ, _+_, _*_, _-_, _≤_, _<_}
-use lib.Dec.{leb, eqb}
-use borrow.Author.Tests.{le-leb, lt-leb, eq-eqb, ne-eqb, not-true, not-false}
+use mathlib.Core.Path.{sym, _∙_}
+use Prim.Native.Nat.{_≤_, _<_}
+use borrow.Author.Tests.{le-leb, lt-leb, not-true, not-false}
 use Rattle.limits.specs.Test.{_&_}
 use Rattle.limits.specs.Size.{pointOctets}
 use Rattle.model.specs.Request.{ownFault}

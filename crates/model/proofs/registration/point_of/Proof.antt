@@ -1,7 +1,6 @@
 -- Field by field, from what the callees promise.
 use Rattle.model.specs.Request.{pointOf}
 use borrow.Author.Needs.{needs}
-use native.Mathlib.Omega.{arith}
 use Rattle.model.proofs.registration.point_of.Statement.{statement}
 use Rattle.model.proofs.registration.point_of.Tie as tie
 

@@ -1,6 +1,5 @@
 -- Each field is read where the record has it.
 use borrow.Author.Needs.{needs}
-use native.Mathlib.Omega.{arith}
 use Rattle.model.proofs.registration.request_at.Statement.{statement}
 use Rattle.model.proofs.registration.request_at.Tie as tie
 

@@ -8,7 +8,7 @@ use borrow.Author.Tests.{eq-eqb, ne-eqb}
 use Rattle.limits.specs.Test.{pick}
 use Rattle.asdu.specs.Header.{globalAddress}
 use Rattle.octets.specs.Number.{two}
-use Rattle.seats.specs.Seats.{seatAt}
+use Rattle.lookup.specs.Seats.{seatAt}
 use Rattle.report.specs.declared.Reach.{Reach}
 use Rattle.output.specs.Reach.{seatReach, reachOf}
 use Rattle.output.proofs.reach.reach_of.Statement.{statement}

@@ -3,7 +3,6 @@
 use mathlib.Core.Path.{_≡_}
 use lib.ListN.{length}
 use borrow.Author.Needs.{needs}
-use native.Mathlib.Omega.{arith}
 use Rattle.replay.proofs.run.steps.Statement.{statement}
 use Rattle.replay.proofs.run.steps.Tie as tie
 

@@ -2,7 +2,6 @@ use Prim.Native.Nat.{ℕ}
 use lib.Dec.{eqb}
 use mathlib.Core.Path.{ap}
 use borrow.Author.Needs.{needs}
-use native.Mathlib.Omega.{arith}
 use Rattle.limits.proofs.outcome.Outcome.is_done.Statement.{statement}
 use Rattle.limits.proofs.outcome.Outcome.is_done.Tie as tie
 

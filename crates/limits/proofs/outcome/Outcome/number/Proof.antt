@@ -1,7 +1,6 @@
 use mathlib.Core.Path.{sym, ap}
 use Rattle.limits.specs.Outcome.{numberOf}
 use borrow.Author.Needs.{needs}
-use native.Mathlib.Omega.{arith}
 use Rattle.limits.proofs.outcome.Outcome.number.Statement.{statement}
 use Rattle.limits.proofs.outcome.Outcome.number.Tie as tie
 

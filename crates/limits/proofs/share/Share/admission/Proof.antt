@@ -1,6 +1,4 @@
 use borrow.Author.Tests.{lt-ltb, le-ltb}
-use borrow.Author.Needs.{needs}
-use native.Mathlib.Omega.{arith}
 use Rattle.limits.proofs.share.Share.admission.Statement.{statement}
 use Rattle.limits.proofs.share.Share.admission.Tie as tie
 

@@ -1,6 +1,5 @@
 use borrow.Author.Tests.{lt-ltb, le-ltb}
 use borrow.Author.Needs.{needs}
-use native.Mathlib.Omega.{arith}
 use Rattle.limits.proofs.share.Share.unmet.Statement.{statement}
 use Rattle.limits.proofs.share.Share.unmet.Tie as tie
 

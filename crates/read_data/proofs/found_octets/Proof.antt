@@ -1,0 +1,62 @@
+-- By the two answers of `find`; a place found lies in the memory.
+use borrow.Author.Needs.{needs}
+use native.Mathlib.Omega.{arith}
+use mathlib.Core.Path.{sym, ap, _∙_}
+use Prim.Native.Nat.{ℕ, _+_}
+use denote.Ref.{now}
+use Rattle.read_data.specs.declared.Asked.the-variants.{Known}
+use Rattle.read_data.specs.Reads.{askedOf}
+use Rattle.read_data.proofs.Turns.{held-inside}
+use Rattle.read_data.proofs.found_octets.Statement.{statement}
+use Rattle.read_data.proofs.found_octets.Tie as tie
+
+find-requires : tie.Need-find-requires
+find-requires c κs = search needs
+
+enum-known-spot : tie.Need-enum-known-spot
+enum-known-spot c = search needs
+
+add-t8 : tie.Need-add-t8
+add-t8 c = search needs
+
+shared-slice-read-point-octets : tie.Need-shared-slice-read-point-octets
+shared-slice-read-point-octets c =
+    let a = c .before .before .before .before .before .before .args in
+    let h = held-inside (now (a .m)) (a .first) (a .h) (a .ioa) _ (sym (c .before .before .before .before .find .ensures) ∙ c .before .before .spot .given .1) in
+    omega arith
+
+point-octets-requires : tie.Need-point-octets-requires
+point-octets-requires c κs = search needs
+
+add-t12 : tie.Need-add-t12
+add-t12 c = search needs
+
+enum-told : tie.Need-enum-told
+enum-told c = search needs
+
+returns : tie.Need-returns
+unfolding askedOf
+returns c =
+    let m = now (c .before .before .before .before .before .before .before .args .m) in
+    let e = sym (c .before .before .before .before .before .find .ensures) ∙ c .before .before .before .spot .given .1 in
+    ap (λ (n : ℕ). Known (9 + n)) (c .point-octets .ensures .0) ∙ sym (ap (askedOf m) e)
+
+returns-2 : tie.Need-returns-2
+unfolding askedOf
+returns-2 c =
+    let m = now (c .before .before .before .before .args .m) in
+    sym (ap (askedOf m) (sym (c .before .before .find .ensures) ∙ c .enum-told .given .1))
+
+pub found-octets-spec : {M : Type 1} → statement M
+found-octets-spec =
+    tie.close
+    (tie.spec
+    find-requires
+    enum-known-spot
+    add-t8
+    shared-slice-read-point-octets
+    point-octets-requires
+    add-t12
+    enum-told
+    returns
+    returns-2)
