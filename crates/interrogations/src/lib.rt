@@ -46,9 +46,7 @@ fn interrogated(qualifier: u8) -> Choice
     if 36 < qualifier {
         return Choice::Denied;
     }
-    Choice::Selected(Selection::Group(
-        qualifier - cot::INTERROGATION_GENERAL,
-    ))
+    Choice::Selected(Selection::Group(qualifier - cot::INTERROGATION_GENERAL))
 }
 
 // A counter interrogation's: bits 0 to 5 choose, 5 all counters, 1 to 4 a group.

@@ -60,15 +60,7 @@ fn handle_read(answer: &mut [u8], table: &[u8], command: Command, asdu: &[u8]) -
         return Answered::nothing(Outcome::AnswerShort);
     }
     confirmation::put_echo(answer, command, asdu, cot::ACTIVATION_CONFIRMATION, false);
-    Answered::given(reads::put_requested(
-        answer,
-        before,
-        table,
-        first,
-        h,
-        command,
-        asdu,
-    ))
+    Answered::given(reads::put_requested(answer, before, table, first, h, command, asdu))
 }
 
 // ---- the clock

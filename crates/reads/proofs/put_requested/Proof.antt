@@ -53,7 +53,7 @@ loop-again c =
     let l = c .before .before .before .before .before .before .loop in
     let i = c .before .before .before .before .three-at .ensures .0 in (
       next-in (now (a .m)) (a .first) (a .h) (a .command .ca) (now (a .asdu)) (now (a .out)) _ (l .out) (a .from) (l .o) (l .at) (l .left) (l .inv .0) (start .pre .1) (omega arith)
-      _ _ _ i (c .before .before .put-found .ensures),
+          _ _ _ i (c .before .before .put-found .ensures),
       omega arith,
     )
 
