@@ -1,4 +1,4 @@
-// What every command says: definitions and their laws. The code that says it stands in `rtu_server`.
+// What every command says: definitions and their laws, what it gives back, and what a qualifier chooses. The code that says it stands above.
 use limits::outcome::Outcome;
 use report::Selection;
 ghost use mathlib.Core.Path.{_≡_};

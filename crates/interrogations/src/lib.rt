@@ -19,7 +19,7 @@ ghost use Rattle.table.specs.Memory.{wellFormed, tableOf};
 ghost use Rattle.asdu.specs.Command.{firstElement};
 ghost use Rattle.output.specs.Data.{TypesOk};
 ghost use Rattle.answers.specs.Said.{Sends, withTable};
-ghost use Rattle.answers.specs.System.{qualifierOf, interrogated, chosen, counterCause, resets, resetBy, answerTo, interrogationAnswer, counterAnswer, afterCounters};
+ghost use Rattle.answers.specs.System.{qualifierOf, interrogated, choiceOf, chosen, counterCause, resets, resetBy, answerTo, interrogationAnswer, counterAnswer, afterCounters};
 ghost use Rattle.confirming.specs.Sending.{HasFirst};
 ghost use Rattle.interrogations.specs.Interrogations.{CauseOf, HasQualifier};
 
@@ -49,11 +49,18 @@ fn interrogated(qualifier: u8) -> Choice
     Choice::Selected(Selection::Group(qualifier - cot::INTERROGATION_GENERAL))
 }
 
-// A counter interrogation's: bits 0 to 5 choose, 5 all counters, 1 to 4 a group.
+// Bits 0 to 5 of a counter interrogation's qualifier.
+fn choice_of(qualifier: u8) -> u8
+    ensures { λ r. ⌜ r ≡ choiceOf qualifier ⌝ }
+{
+    qualifier % 64
+}
+
+// They choose: 5 all counters, 1 to 4 a group.
 fn chosen(qualifier: u8) -> Choice
     ensures { λ r. ⌜ r ≡ chosen qualifier ⌝ }
 {
-    let choice = qualifier % 64;
+    let choice = choice_of(qualifier);
     if choice == 5 {
         return Choice::Selected(Selection::Every);
     }
@@ -70,7 +77,7 @@ fn chosen(qualifier: u8) -> Choice
 fn counter_interrogation_data_cot(qualifier: u8) -> u8
     ensures { λ r. ⌜ r ≡ counterCause qualifier ⌝ }
 {
-    let choice = qualifier % 64;
+    let choice = choice_of(qualifier);
     if choice == 5 {
         return cot::COUNTER_INTERROGATION_GENERAL;
     }

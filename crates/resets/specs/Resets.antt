@@ -9,6 +9,7 @@ use Rattle.layout.specs.Layout.{placeSize, valueOffset}
 use Rattle.model.specs.Place.{isCounter, pointAt}
 use Rattle.report.specs.declared.Selection.{Selection}
 use Rattle.report.specs.Selection.{selects}
+use Rattle.answers.specs.System.{readingOctets}
 
 -- is there a counter at the place, and does the selection take it?
 unfoldable pub takesAt : Selection → List ℕ → ℕ → Bool
@@ -16,7 +17,7 @@ takesAt sel m at = isCounter (getD m at 0) & selects sel (pointAt m at)
 
 -- the place at `at` with its counter's reading, the first four octets of its value, set to 0 where the selection takes it
 unfoldable pub resetPlace : Selection → List ℕ → ℕ → List ℕ
-resetPlace sel m at = pick (takesAt sel m at) (over m (at + valueOffset) (replicate 4 0)) m
+resetPlace sel m at = pick (takesAt sel m at) (over m (at + valueOffset) (replicate readingOctets 0)) m
 
 -- the same of n places from `at`
 unfoldable pub resetPlaces : Selection → List ℕ → ℕ → ℕ → List ℕ
