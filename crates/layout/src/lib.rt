@@ -3,7 +3,7 @@
 ghost use mathlib.Core.Path.{_≡_};
 ghost use Prim.Native.Nat.{_+_, _*_, _≤_, _<_};
 ghost use lib.ListN.{length};
-ghost use Rattle.layout.specs.Layout.{headSize, placeSize, stationSize, capacityIn, stationsIn, pointsIn, stationsFrom, sizeIn, caAt, reservationAt, ceilingAt, heldAt};
+ghost use Rattle.layout.specs.Layout.{headSize, stationSize, capacityIn, stationsIn, pointsIn, stationsFrom, sizeIn, caAt, reservationAt, ceilingAt, heldAt};
 
 // ---- sizes, in octets
 
@@ -57,8 +57,6 @@ pub const VALUE_SIZE: usize = 12;
 // From here on a place is zero.
 pub const REST_OFFSET: usize = 22;
 
-pub const REST_SIZE: usize = 26;
-
 // ---- in a station
 
 pub const RESERVATION_OFFSET: usize = 2;
@@ -101,15 +99,7 @@ pub fn size_of(m: &[u8]) -> usize
     HEAD_SIZE + PLACE_SIZE * capacity_of(m) + STATION_SIZE * stations_of(m)
 }
 
-// ---- where places and stations lie
-
-// Place i of those from `first`.
-pub fn place_at(first: usize, i: usize) -> usize
-    requires { ⌜ (first ≤ 4294967296) × (i ≤ 4294967296) ⌝ }
-    ensures { λ r. ⌜ r ≡ first + placeSize * i ⌝ }
-{
-    first + PLACE_SIZE * i
-}
+// ---- where stations lie, and what they say
 
 // Station i.
 pub fn station_at(m: &[u8], i: usize) -> usize
