@@ -130,22 +130,30 @@ flagged-after m l w = of-parsed (parse (l .table))
 
 -- ---- what the entry's contract says
 
-module _ (f : Table → Said) (l : Lent) (r : Answered) (k : Clock) (t a s : List ℕ) (seven : length (k .octets) ≡ 7) (p : Leaves asItIs f l r (lent t (octetsOf k) a s)) where
-  -- The clock that is left is the one that the octets of what is said stand for.
-  pub clock-left : k ≡ clockOf (lentAfter f l .clock)
-  clock-left = sym (same-clock k seven) ∙ ap (λ (z : Lent). clockOf (z .clock)) (p .leaves)
+-- The octets of a clock tell it, whatever their number.
+pub octets-tell : (k k′ : Clock) → octetsOf k ≡ octetsOf k′ → k ≡ k′
+octets-tell k k′ e =
+    let n : length (k .octets) ≡ length (k′ .octets) = omega (arith, simp length-append at (ap length e)) in
+    let front : k .octets ≡ k′ .octets =
+    sym (take-append-seam (k .octets) (flagOf (k .known) ∷ [])) ∙ ap (take (length (k .octets))) e
+    ∙ ap (λ (i : ℕ). take i (octetsOf k′)) n ∙ take-append-seam (k′ .octets) (flagOf (k′ .known) ∷ []) in
+    let flag : flagOf (k .known) ≡ flagOf (k′ .known) =
+    sym (getD-append-seam (k .octets) (flagOf (k .known)) [] 0) ∙ ap (λ (x : List ℕ). getD x (length (k .octets)) 0) e
+    ∙ ap (λ (i : ℕ). getD (octetsOf k′) i 0) n ∙ getD-append-seam (k′ .octets) (flagOf (k′ .known)) [] 0 in
+    let known : k .known ≡ k′ .known = sym (flag-says (k .known)) ∙ ap (λ (x : ℕ). not (eqb x 0)) flag ∙ flag-says (k′ .known) in
+    (λ j. clockWith (front j) (known j))
 
 -- Two outcomes that meet the entry's contract on the same inputs are equal: answer, clock, table and answer memory.
-pub one-outcome : (f : Table → Said) (l : Lent) (r r′ : Answered) (k k′ : Clock) (t t′ a a′ s s′ : List ℕ) → length (k .octets) ≡ 7 → length (k′ .octets) ≡ 7
+pub one-outcome : (f : Table → Said) (l : Lent) (r r′ : Answered) (k k′ : Clock) (t t′ a a′ s s′ : List ℕ)
     → Leaves asItIs f l r (lent t (octetsOf k) a s) → Leaves asItIs f l r′ (lent t′ (octetsOf k′) a′ s′) → (r ≡ r′) × (k ≡ k′) × (t ≡ t′) × (a ≡ a′)
-one-outcome f l r r′ k k′ t t′ a a′ s s′ seven seven′ p q =
+one-outcome f l r r′ k k′ t t′ a a′ s s′ p q =
     let e = p .leaves ∙ sym (q .leaves) in
-    (p .answers ∙ sym (q .answers), clock-left f l r k t a s seven p ∙ sym (clock-left f l r′ k′ t′ a′ s′ seven′ q), ap (λ (z : Lent). z .table) e, ap (λ (z : Lent). z .answer) e)
+    (p .answers ∙ sym (q .answers), octets-tell k k′ (ap (λ (z : Lent). z .clock) e), ap (λ (z : Lent). z .table) e, ap (λ (z : Lent). z .answer) e)
 
 -- A refusal leaves the clock, the table and the answer memory as they were.
-pub refusal-leaves-all : (f : Table → Said) (k : Clock) (t a s : List ℕ) (r : Answered) (k′ : Clock) (t′ a′ s′ : List ℕ) → length (k .octets) ≡ 7 → length (k′ .octets) ≡ 7
+pub refusal-leaves-all : (f : Table → Said) (k : Clock) (t a s : List ℕ) (r : Answered) (k′ : Clock) (t′ a′ s′ : List ℕ)
     → Leaves asItIs f (lent t (octetsOf k) a s) r (lent t′ (octetsOf k′) a′ s′) → isDone (r .outcome) ≡ false → (k′ ≡ k) × (t′ ≡ t) × (a′ ≡ a)
-refusal-leaves-all f k t a s r k′ t′ a′ s′ seven seven′ p e =
+refusal-leaves-all f k t a s r k′ t′ a′ s′ p e =
     let l = lent t (octetsOf k) a s in
     let z = p .leaves ∙ refused-says-nothing f l (ap (λ (x : Answered). isDone (x .outcome)) (sym (p .answers)) ∙ e) .2 in
-    (sym (same-clock k′ seven′) ∙ ap (λ (x : Lent). clockOf (x .clock)) z ∙ same-clock k seven, ap (λ (x : Lent). x .table) z, ap (λ (x : Lent). x .answer) z)
+    (octets-tell k′ k (ap (λ (x : Lent). x .clock) z), ap (λ (x : Lent). x .table) z, ap (λ (x : Lent). x .answer) z)
