@@ -30,14 +30,20 @@ enum-told-2 c = search needs
 
 returns-2 : tie.Need-returns-2
 returns-2 c =
-    let a = c .before .before .before .before .before .args in
-    let d : isDone (ownFault true (a .q)) ≡ true = ap isDone (sym (c .before .before .before .before .own-fault .ensures)) ∙ sym (c .before .before .before .is-done .ensures) ∙ not-false _ (c .before .before .if1 .left) in
+    let at-is-done = c .before .before .before in
+    let at-own-fault = at-is-done .before in
+    let start = at-own-fault .before in
+    let a = start .args in
+    let d : isDone (ownFault true (a .q)) ≡ true = ap isDone (sym (at-own-fault .own-fault .ensures)) ∙ sym (at-is-done .is-done .ensures) ∙ not-false _ (c .before .before .if1 .left) in
     sym (own-passed (a .q) (a .spot) d ∙ ap spotFault (c .enum-told .given .1))
 
 returns-3 : tie.Need-returns-3
 returns-3 c =
-    let a = c .before .before .before .before .before .args in
-    let d : isDone (ownFault true (a .q)) ≡ true = ap isDone (sym (c .before .before .before .before .own-fault .ensures)) ∙ sym (c .before .before .before .is-done .ensures) ∙ not-false _ (c .before .before .if1 .left) in
+    let at-is-done = c .before .before .before in
+    let at-own-fault = at-is-done .before in
+    let start = at-own-fault .before in
+    let a = start .args in
+    let d : isDone (ownFault true (a .q)) ≡ true = ap isDone (sym (at-own-fault .own-fault .ensures)) ∙ sym (at-is-done .is-done .ensures) ∙ not-false _ (c .before .before .if1 .left) in
     sym (own-passed (a .q) (a .spot) d ∙ ap spotFault (c .enum-told2 .given .1))
 
 pub seat-fault-spec : {M : Type 1} → statement M

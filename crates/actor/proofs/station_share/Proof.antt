@@ -21,16 +21,16 @@ no-share-requires c κs = search needs
 
 returns : tie.Need-returns
 returns c =
-    let at-start = c .before .before .before .before in
-    let a = at-start .args in
+    let start = c .before .before .before .before in
+    let a = start .args in
     let m = now (a .table) in
     let w : wellFormed m ≡ false = sym (c .before .before .well-formed .ensures) ∙ not-true _ (c .before .if1 .taken) in
     c .no-share .ensures ∙ share-no-table m (a .ca) w
 
 seat-at-requires : tie.Need-seat-at-requires
 seat-at-requires c κs =
-    let at-start = c .before .before .before in
-    let a = at-start .args in
+    let start = c .before .before .before in
+    let a = start .args in
     let m = now (a .table) in
     let w : wellFormed m ≡ true = sym (c .before .well-formed .ensures) ∙ not-false _ (c .if1 .left) in
     let top = passed m w .top in
@@ -52,8 +52,8 @@ returns-2 c =
     let at-seat-at = c .before .before .before in
     let at-if1 = at-seat-at .before in
     let at-well-formed = at-if1 .before in
-    let at-start = at-well-formed .before .before in
-    let a = at-start .args in
+    let start = at-well-formed .before .before in
+    let a = start .args in
     let m = now (a .table) in
     let w : wellFormed m ≡ true = sym (at-well-formed .well-formed .ensures) ∙ not-false _ (at-if1 .if1 .left) in
     c .no-share2 .ensures ∙ share-absent m w (a .ca) (sym (at-seat-at .seat-at .ensures) ∙ c .before .enum-told .given .1)
@@ -64,8 +64,8 @@ share-here-requires c κs =
     let at-if1 = at-seat-at .before in
     let at-well-formed = at-if1 .before in
     let at-shared-slice-known = at-well-formed .before in
-    let at-start = at-shared-slice-known .before in
-    let a = at-start .args in
+    let start = at-shared-slice-known .before in
+    let a = start .args in
     let m = now (a .table) in
     let w : wellFormed m ≡ true = sym (at-well-formed .well-formed .ensures) ∙ not-false _ (at-if1 .if1 .left) in
     let o : Octets m = λ k. omega (arith, at-shared-slice-known .shared-slice-known .given k) in
@@ -84,8 +84,8 @@ returns-3 c =
     let at-if1 = at-seat-at .before in
     let at-well-formed = at-if1 .before in
     let at-shared-slice-known = at-well-formed .before in
-    let at-start = at-shared-slice-known .before in
-    let a = at-start .args in
+    let start = at-shared-slice-known .before in
+    let a = start .args in
     let m = now (a .table) in
     let w : wellFormed m ≡ true = sym (at-well-formed .well-formed .ensures) ∙ not-false _ (at-if1 .if1 .left) in
     let o : Octets m = λ k. omega (arith, at-shared-slice-known .shared-slice-known .given k) in

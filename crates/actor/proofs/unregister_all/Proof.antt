@@ -26,8 +26,8 @@ same-length c = search needs
 
 returns : tie.Need-returns
 returns c =
-    let at-start = c .before .before .before .before .before in
-    let a = at-start .args in
+    let start = c .before .before .before .before .before in
+    let a = start .args in
     let m = now (a .table) in
     let w : wellFormed m ≡ false = sym (c .before .before .well-formed .ensures) ∙ not-true _ (c .before .if1 .taken) in
     let z = no-table unregisteringAll m w in
@@ -36,8 +36,8 @@ returns c =
 take-all-out-requires : tie.Need-take-all-out-requires
 take-all-out-requires c κs =
     let at-slice-known = c .before .before .before .before in
-    let at-start = at-slice-known .before in
-    let a = at-start .args in
+    let start = at-slice-known .before in
+    let a = start .args in
     let m = now (a .table) in
     let w : wellFormed m ≡ true = sym (c .before .before .well-formed .ensures) ∙ not-false _ (c .before .if1 .left) in
     let o : Octets m = λ k. omega (arith, at-slice-known .slice-known .given k) in
@@ -52,8 +52,8 @@ returns-2 c =
     let at-if1 = c .before .before .before .before in
     let at-well-formed = at-if1 .before in
     let at-slice-known = at-well-formed .before .before in
-    let at-start = at-slice-known .before in
-    let a = at-start .args in
+    let start = at-slice-known .before in
+    let a = start .args in
     let m = now (a .table) in
     let w : wellFormed m ≡ true = sym (at-well-formed .well-formed .ensures) ∙ not-false _ (at-if1 .if1 .left) in
     let o : Octets m = λ k. omega (arith, at-slice-known .slice-known .given k) in

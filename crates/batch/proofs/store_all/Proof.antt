@@ -21,30 +21,30 @@ use Rattle.batch.proofs.store_all.Tie as tie
 capacity-of-requires : tie.Need-capacity-of-requires
 capacity-of-requires c κs =
     let at-slice-known = c .before .before .before in
-    let at-start = at-slice-known .before in
-    let long = storable (now (at-start .args .m)) _ _ (λ j. omega (arith, at-slice-known .slice-known .given j)) (at-start .pre .0) (at-start .pre .1) .length-is in
+    let start = at-slice-known .before in
+    let long = storable (now (start .args .m)) _ _ (λ j. omega (arith, at-slice-known .slice-known .given j)) (start .pre .0) (start .pre .1) .length-is in
     omega arith
 
 stations-of-requires : tie.Need-stations-of-requires
 stations-of-requires c κs =
     let at-slice-known = c .before .before .before .before .before in
-    let at-start = at-slice-known .before in
-    let long = storable (now (at-start .args .m)) _ _ (λ j. omega (arith, at-slice-known .slice-known .given j)) (at-start .pre .0) (at-start .pre .1) .length-is in
+    let start = at-slice-known .before in
+    let long = storable (now (start .args .m)) _ _ (λ j. omega (arith, at-slice-known .slice-known .given j)) (start .pre .0) (start .pre .1) .length-is in
     omega arith
 
 points-of-requires : tie.Need-points-of-requires
 points-of-requires c κs =
     let at-slice-known = c .before .before .before .before .before .before .before in
-    let at-start = at-slice-known .before in
-    let long = storable (now (at-start .args .m)) _ _ (λ j. omega (arith, at-slice-known .slice-known .given j)) (at-start .pre .0) (at-start .pre .1) .length-is in
+    let start = at-slice-known .before in
+    let long = storable (now (start .args .m)) _ _ (λ j. omega (arith, at-slice-known .slice-known .given j)) (start .pre .0) (start .pre .1) .length-is in
     omega arith
 
 merge-requires : tie.Need-merge-requires
 merge-requires c κs =
     let at-slice-known = c .before .before .before .before .before .before .before .before .before in
-    let at-start = at-slice-known .before in
-    let a = at-start .args in
-    let p = at-start .pre in
+    let start = at-slice-known .before in
+    let a = start .args in
+    let p = start .pre in
     let m = now (a .m) in
     let r = now (a .records) in
     let z = storable m r (now (a .taken)) (λ j. omega (arith, at-slice-known .slice-known .given j)) (p .0) (p .1) in
@@ -72,9 +72,9 @@ raise-held-requires c κs =
     let at-stations-of = at-points-of .before .before in
     let at-capacity-of = at-stations-of .before .before in
     let at-slice-known = at-capacity-of .before .before .before .before in
-    let at-start = at-slice-known .before in
-    let a = at-start .args in
-    let p = at-start .pre in
+    let start = at-slice-known .before in
+    let a = start .args in
+    let p = start .pre in
     let m = now (a .m) in
     let r = now (a .records) in
     let z = storable m r (now (a .taken)) (λ j. omega (arith, at-slice-known .slice-known .given j)) (p .0) (p .1) in
@@ -95,9 +95,9 @@ add-put-two : tie.Need-add-put-two
 add-put-two c =
     let at-points-of = c .before .before .before .before .before .before .before .before .before in
     let at-slice-known = at-points-of .before .before .before .before .before .before .before .before in
-    let at-start = at-slice-known .before in
-    let a = at-start .args in
-    let p = at-start .pre in
+    let start = at-slice-known .before in
+    let a = start .args in
+    let p = start .pre in
     let z = storable (now (a .m)) _ _ (λ j. omega (arith, at-slice-known .slice-known .given j)) (p .0) (p .1) in
     let e8 : at-points-of .points-of .result ≡ pointsIn (now (a .m)) = at-points-of .points-of .ensures .0 in
     let few = z .capacity in
@@ -110,9 +110,9 @@ put-two-requires c κs =
     let at-merge = at-raise-held .before .before .before .before in
     let at-points-of = at-merge .before .before in
     let at-slice-known = at-points-of .before .before .before .before .before .before .before .before in
-    let at-start = at-slice-known .before in
-    let a = at-start .args in
-    let p = at-start .pre in
+    let start = at-slice-known .before in
+    let a = start .args in
+    let p = start .pre in
     let z = storable (now (a .m)) _ _ (λ j. omega (arith, at-slice-known .slice-known .given j)) (p .0) (p .1) in
     let e8 : at-points-of .points-of .result ≡ pointsIn (now (a .m)) = at-points-of .points-of .ensures .0 in
     let few = z .capacity in
@@ -131,9 +131,9 @@ returns c =
     let at-stations-of = at-points-of .before .before in
     let at-capacity-of = at-stations-of .before .before in
     let at-slice-known = at-capacity-of .before .before .before .before in
-    let at-start = at-slice-known .before in
-    let a = at-start .args in
-    let p = at-start .pre in
+    let start = at-slice-known .before in
+    let a = start .args in
+    let p = start .pre in
     let m = now (a .m) in
     let r = now (a .records) in
     let z = storable m r (now (a .taken)) (λ j. omega (arith, at-slice-known .slice-known .given j)) (p .0) (p .1) in

@@ -30,7 +30,8 @@ four-at-requires c κs = search needs
 returns-2 : tie.Need-returns-2
 unfolding hasAddress _&_
 returns-2 c =
-    let a = c .before .before .before .before .args in
+    let start = c .before .before .before .before in
+    let a = start .args in
     let e : two (now (a .records)) (a .at) ≡ a .ca = omega arith in
     let f : c .four-at .result ≡ four (now (a .records)) (a .at + 2) = c .four-at .ensures .0 in
     simp (eq-eqb _ _ e, f)

@@ -28,43 +28,43 @@ enum-told c = search needs
 
 returns : tie.Need-returns
 returns c =
-    let at-start = c .before .before .before .before in
-    let a = at-start .args in
+    let start = c .before .before .before .before in
+    let a = start .args in
     turn-unplanned (now (a .m)) (now (a .taken)) (a .ca) (a .free) (a .unmet) (sym (c .before .before .seat-at .ensures) ∙ c .enum-told .given .1)
 
 station-at-requires : tie.Need-station-at-requires
 station-at-requires c κs =
     let at-seat-at = c .before .before .before in
-    let at-start = at-seat-at .before .before in
+    let start = at-seat-at .before .before in
     let i = seat-inside _ _ _ _ _ (sym (at-seat-at .seat-at .ensures) ∙ c .before .seat .given .1) in
-    let stations = at-start .pre .0 in
+    let stations = start .pre .0 in
     (omega arith, omega arith)
 
 mul-earlier : tie.Need-mul-earlier
 mul-earlier c =
     let at-seat-at = c .before .before .before .before in
-    let at-start = at-seat-at .before .before in
+    let start = at-seat-at .before .before in
     let i = seat-inside _ _ _ _ _ (sym (at-seat-at .seat-at .ensures) ∙ c .before .before .seat .given .1) in
-    let stations = at-start .pre .0 in
+    let stations = start .pre .0 in
     omega arith
 
 element-copy-out-earlier : tie.Need-element-copy-out-earlier
 element-copy-out-earlier c =
     let at-seat-at = c .before .before .before .before in
-    let at-start = at-seat-at .before .before in
+    let start = at-seat-at .before .before in
     let i = seat-inside _ _ _ _ _ (sym (at-seat-at .seat-at .ensures) ∙ c .before .before .seat .given .1) in
-    let stations = at-start .pre .0 in
+    let stations = start .pre .0 in
     omega arith
 
 share-with-requires : tie.Need-share-with-requires
 share-with-requires c κs =
     let at-seat = c .before .before .before in
     let at-seat-at = at-seat .before .before in
-    let at-start = at-seat-at .before .before in
+    let start = at-seat-at .before .before in
     let i = seat-inside _ _ _ _ _ (sym (at-seat-at .seat-at .ensures) ∙ at-seat .seat .given .1) in
-    let stations = at-start .pre .0 in
+    let stations = start .pre .0 in
     let at = c .before .station-at .ensures in
-    let room = at-start .pre .1 in
+    let room = start .pre .1 in
     omega arith
 
 ask-requires : tie.Need-ask-requires
@@ -79,8 +79,8 @@ returns-2 c =
     let at-station-at = at-share-with .before .before in
     let at-seat = at-station-at .before .before in
     let at-seat-at = at-seat .before .before in
-    let at-start = at-seat-at .before .before in
-    let a = at-start .args in
+    let start = at-seat-at .before .before in
+    let a = start .args in
     let m = now (a .m) in
     let g = at-seat .seat .given in
     let e : seatAt m (a .ca) ≡ Here (g .0 .0) (g .0 .1 .0) (g .0 .1 .1 .0) = sym (at-seat-at .seat-at .ensures) ∙ g .1 in
@@ -96,8 +96,8 @@ add-taken c =
     let at-station-at = at-share-with .before .before in
     let at-seat = at-station-at .before .before in
     let at-seat-at = at-seat .before .before in
-    let at-start = at-seat-at .before .before in
-    let a = at-start .args in
+    let start = at-seat-at .before .before in
+    let a = start .args in
     let m = now (a .m) in
     let g = at-seat .seat .given in
     let e : seatAt m (a .ca) ≡ Here (g .0 .0) (g .0 .1 .0) (g .0 .1 .1 .0) = sym (at-seat-at .seat-at .ensures) ∙ g .1 in
@@ -114,18 +114,18 @@ mul-taken : tie.Need-mul-taken
 mul-taken c =
     let at-seat = c .before .before .before .before .before .before .before in
     let at-seat-at = at-seat .before .before in
-    let at-start = at-seat-at .before .before in
+    let start = at-seat-at .before .before in
     let i = seat-inside _ _ _ _ _ (sym (at-seat-at .seat-at .ensures) ∙ at-seat .seat .given .1) in
-    let stations = at-start .pre .0 in
+    let stations = start .pre .0 in
     omega arith
 
 element-write-taken : tie.Need-element-write-taken
 element-write-taken c =
     let at-seat = c .before .before .before .before .before .before .before in
     let at-seat-at = at-seat .before .before in
-    let at-start = at-seat-at .before .before in
+    let start = at-seat-at .before .before in
     let i = seat-inside _ _ _ _ _ (sym (at-seat-at .seat-at .ensures) ∙ at-seat .seat .given .1) in
-    let stations = at-start .pre .0 in
+    let stations = start .pre .0 in
     omega arith
 
 returns-3 : tie.Need-returns-3
@@ -134,8 +134,8 @@ returns-3 c =
     let at-station-at = at-share-with .before .before in
     let at-seat = at-station-at .before .before in
     let at-seat-at = at-seat .before .before in
-    let at-start = at-seat-at .before .before in
-    let a = at-start .args in
+    let start = at-seat-at .before .before in
+    let a = start .args in
     let m = now (a .m) in
     let g = at-seat .seat .given in
     let e : seatAt m (a .ca) ≡ Here (g .0 .0) (g .0 .1 .0) (g .0 .1 .1 .0) = sym (at-seat-at .seat-at .ensures) ∙ g .1 in

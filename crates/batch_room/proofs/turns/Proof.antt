@@ -42,8 +42,8 @@ returns : tie.Need-returns Inv-loop μ-loop
 returns c =
     let at-two-at = c .before .before .before .before in
     let at-loop = at-two-at .before .before in
-    let at-start = at-loop .before .before .before in
-    let a = at-start .args in
+    let start = at-loop .before .before .before in
+    let a = start .args in
     let l = at-loop .loop in
     let k = at-two-at .two-at .ensures .0 in
     let t = c .before .before .turn in
@@ -64,8 +64,8 @@ loop-again : tie.Need-loop-again Inv-loop μ-loop
 loop-again c =
     let at-two-at = c .before .before .before .before in
     let at-loop = at-two-at .before .before in
-    let at-start = at-loop .before .before .before in
-    let a = at-start .args in
+    let start = at-loop .before .before .before in
+    let a = start .args in
     let l = at-loop .loop in
     let k = at-two-at .two-at .ensures .0 in
     let t = c .before .before .turn in

@@ -45,9 +45,11 @@ flag-asked-requires c κs = search needs
 
 fault-at-requires : tie.Need-fault-at-requires Inv-loop μ-loop
 fault-at-requires c κs =
-    let a = c .before .before .before .before .before .before .before .args in
-    let p = c .before .before .before .before .before .before .before .pre in
-    let l = c .before .before .before .before .loop in
+    let at-loop = c .before .before .before .before in
+    let start = at-loop .before .before .before in
+    let a = start .args in
+    let p = start .pre in
+    let l = at-loop .loop in
     (p .0, omega arith, asked-says (l .flags) (now (a .records)) (a .apart) _ _ _ (l .i) (c .flag-asked .ensures) (c .before .before .flag-at .ensures .0) (l .inv .1) (p .2) (omega arith))
 
 is-done-requires : tie.Need-is-done-requires Inv-loop μ-loop
@@ -55,13 +57,16 @@ is-done-requires c κs = search needs
 
 returns : tie.Need-returns Inv-loop μ-loop
 returns c =
-    let l = c .before .before .before .before .before .before .before .loop in
+    let at-loop = c .before .before .before .before .before .before .before in
+    let l = at-loop .loop in
     let f = c .before .before .fault-at .ensures in
     let d = sym (c .before .is-done .ensures ∙ ap isDone f) ∙ not-true _ (c .if1 .taken) in
     sym (l .inv .0 ∙ own-stop _ _ _ _ (omega arith) d ∙ ap (λ (o : Outcome). record { outcome = o; place = l .i }) (sym f))
 
 element-write-flags : tie.Need-element-write-flags Inv-loop μ-loop
-element-write-flags c = let k = c .before .before .before .before .before .flag-at .ensures .1 in omega arith
+element-write-flags c =
+    let at-flag-at = c .before .before .before .before .before in
+    let k = at-flag-at .flag-at .ensures .1 in omega arith
 
 add-i : tie.Need-add-i Inv-loop μ-loop
 add-i c = search needs
@@ -71,9 +76,11 @@ loop-less c = search needs
 
 loop-again : tie.Need-loop-again Inv-loop μ-loop
 loop-again c =
-    let l = c .before .before .before .before .before .before .before .loop in
+    let at-flag-at = c .before .before .before .before .before in
+    let at-loop = at-flag-at .before .before in
+    let l = at-loop .loop in
     let f = c .before .before .fault-at .ensures in
-    let k = c .before .before .before .before .before .flag-at in
+    let k = at-flag-at .flag-at in
     let d = sym (c .before .is-done .ensures ∙ ap isDone f) ∙ not-false _ (c .if1 .left) in
     let h : length (l .flags) ≡ 16384 = l .inv .2 in
     let below : k .result < 16384 = k .ensures .1 in

@@ -32,7 +32,8 @@ returns : tie.Need-returns
 returns c =
     let at-entry = c .before .before .before .before .before .before .before in
     let at-octets = at-entry .before .before .before in
-    let a = at-octets .before .before .before .before .before .args in
+    let start = at-octets .before .before .before .before .before in
+    let a = start .args in
     let flat = at-octets .octets-of .result in
     let said = at-entry .system-command in
     let k = at-octets .octets-of .ensures .0 in

@@ -1,19 +1,39 @@
 -- 3, then the reading's own tests, then the command that was read. Assumes nothing.
 use borrow.Author.Needs.{needs}
 use borrow.Author.Tests.{not-true, not-false}
-use mathlib.Core.Path.{sym, ap, _∙_}
+use mathlib.Core.Path.{_≡_, sym, ap, _∙_}
 use mathlib.Core.List.{[]}
+use mathlib.Core.Bool.{true}
 use Prim.Native.Nat.{ℕ}
 use denote.Ref.{now}
+use Rattle.table.specs.Memory.{wellFormed, tableOf}
+use Rattle.table.specs.Settings.{limitOf}
 use Rattle.asdu.specs.declared.command.Entry.the-variants.{ProcessCommands}
 use Rattle.asdu.specs.Command.{readAs}
-use Rattle.answers.specs.Said.{lent, nothing}
-use Rattle.answers.specs.Process.{processSaid}
+use Rattle.answers.specs.Said.{Lent, lent, nothing}
+use Rattle.answers.specs.Process.{Proposal, processSaid}
 use Rattle.answers.proofs.Ends.{ends-no-table}
 use Rattle.commands.specs.Entry.{proposalOf}
 use Rattle.commands.proofs.Laws.{gives, process-unread, process-read}
 use Rattle.commands.proofs.process_command.Statement.{statement}
 use Rattle.commands.proofs.process_command.Tie as tie
+
+-- what is lent, and what is proposed
+abbrev lentIn : tie.Start → Lent
+lentIn s = lent (now (s .args .table)) [] (now (s .args .answer)) (now (s .args .spontaneous))
+
+abbrev proposalIn : tie.Start → Proposal
+proposalIn s = proposalOf (s .args .negative) (s .args .reply-type) (now (s .args .reply)) (now (s .args .updates))
+
+-- the table is there
+there : (c : tie.Else1) → let start = c .before .before .before .before .before .before .before .before .before in wellFormed (now (start .args .table)) ≡ true
+there c = sym (c .before .well-formed .ensures) ∙ not-false _ (c .if1 .left)
+
+-- what was read is what the table's limit allows
+is-read : (c : tie.After-parse) → let start = c .before .before .before .before .before .before .before .before .before .before .before .before in c .parse .result ≡ readAs (limitOf (tableOf (now (start .args .table)))) ProcessCommands (now (start .args .asdu))
+is-read c =
+    let start = c .before .before .before .before .before .before .before .before .before .before .before .before in
+    c .parse .ensures ∙ ap (λ (n : ℕ). readAs n ProcessCommands (now (start .args .asdu))) (c .before .limit-of .ensures .0)
 
 well-formed-requires : tie.Need-well-formed-requires
 well-formed-requires c κs = search needs
@@ -27,16 +47,12 @@ same-length c = search needs
 returns : tie.Need-returns
 returns c =
     let at-formed = c .before .before in
-    let a = at-formed .before .before .before .before .before .before .before .before .args in
-    let l = lent (now (a .table)) [] (now (a .answer)) (now (a .spontaneous)) in
-    let p = proposalOf (a .negative) (a .reply-type) (now (a .reply)) (now (a .updates)) in
+    let start = at-formed .before .before .before .before .before .before .before .before in
     gives _ _ _ _ _ (c .nothing .ensures)
-    (ends-no-table (processSaid [] p (now (a .asdu))) l (sym (at-formed .well-formed .ensures) ∙ not-true _ (c .before .if1 .taken)))
+    (ends-no-table (processSaid [] (proposalIn start) (now (start .args .asdu))) (lentIn start) (sym (at-formed .well-formed .ensures) ∙ not-true _ (c .before .if1 .taken)))
 
 limit-of-requires : tie.Need-limit-of-requires
-limit-of-requires c κs =
-    let at-formed = c .before .before in
-    sym (at-formed .well-formed .ensures) ∙ not-false _ (c .before .if1 .left)
+limit-of-requires c κs = there (c .before)
 
 parse-requires : tie.Need-parse-requires
 parse-requires c κs = search needs
@@ -57,21 +73,18 @@ returns-2 : tie.Need-returns-2
 returns-2 c =
     let at-match = c .before .before in
     let at-parse = at-match .before in
-    let at-limit = at-parse .before in
-    let at-test = at-limit .before .before in
-    let a = at-test .before .before .before .before .before .before .before .before .before .args in
-    let w = sym (at-test .before .well-formed .ensures) ∙ not-false _ (at-test .if1 .left) in
-    let l = lent (now (a .table)) [] (now (a .answer)) (now (a .spontaneous)) in
-    let p = proposalOf (a .negative) (a .reply-type) (now (a .reply)) (now (a .updates)) in
-    let x = at-parse .parse .result in
-    let e = at-parse .parse .ensures ∙ ap (λ (n : ℕ). readAs n ProcessCommands (now (a .asdu))) (at-limit .limit-of .ensures .0) in
-    process-read l l p (now (a .asdu)) _ x w e
-    (gives _ _ _ _ _ (c .nothing2 .ensures ∙ ap nothing (c .before .outcome .ensures)) (process-unread l p w x (at-match .match .keys2)))
+    let formed = at-parse .before .before .before in
+    let start = formed .before .before .before .before .before .before .before .before .before in
+    let l = lentIn start in
+    let p = proposalIn start in
+    let w = there formed in
+    process-read l l p (now (start .args .asdu)) _ _ w (is-read at-parse)
+    (gives _ _ _ _ _ (c .nothing2 .ensures ∙ ap nothing (c .before .outcome .ensures)) (process-unread l p w _ (at-match .match .keys2)))
 
 handle-process-command-requires : tie.Need-handle-process-command-requires
 handle-process-command-requires c κs =
-    let at-test = c .before .before .before .before .before .before .before .before .before in
-    sym (at-test .before .well-formed .ensures) ∙ not-false _ (at-test .if1 .left)
+    let formed = c .before .before .before .before .before .before .before .before .before in
+    there formed
 
 same-length-3 : tie.Need-same-length-3
 same-length-3 c = search needs
@@ -87,14 +100,9 @@ returns-3 c =
     let at-handle = c .before .before .before .before .before .before in
     let at-reading = at-handle .before .before .before .before .before in
     let at-parse = at-reading .before .before in
-    let at-limit = at-parse .before in
-    let at-test = at-limit .before .before in
-    let a = at-test .before .before .before .before .before .before .before .before .before .args in
-    let w = sym (at-test .before .well-formed .ensures) ∙ not-false _ (at-test .if1 .left) in
-    let l = lent (now (a .table)) [] (now (a .answer)) (now (a .spontaneous)) in
-    let p = proposalOf (a .negative) (a .reply-type) (now (a .reply)) (now (a .updates)) in
-    let e = at-parse .parse .ensures ∙ ap (λ (n : ℕ). readAs n ProcessCommands (now (a .asdu))) (at-limit .limit-of .ensures .0) in
-    process-read l _ p (now (a .asdu)) _ _ w (sym (at-reading .reading .given .1) ∙ e) (at-handle .handle-process-command .ensures)
+    let formed = at-parse .before .before .before in
+    let start = formed .before .before .before .before .before .before .before .before .before in
+    process-read (lentIn start) _ (proposalIn start) (now (start .args .asdu)) _ _ (there formed) (sym (at-reading .reading .given .1) ∙ is-read at-parse) (at-handle .handle-process-command .ensures)
 
 pub process-command-spec : {M : Type 1} → statement M
 process-command-spec =

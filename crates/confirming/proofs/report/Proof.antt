@@ -35,16 +35,19 @@ abbrev aroundIn : tie.Start → ℕ
 aroundIn s = firstElement + s .args .command .element
 
 -- the data that are written are those
-same-data : (c : tie.After-put-data) →
-    (c .put-data .result ≡ wrote (length (now (c .before .before .before .before .before .before .before .before .before .args .answer))) (aroundIn (c .before .before .before .before .before .before .before .before .before)) (aroundIn (c .before .before .before .before .before .before .before .before .before)) (dataIn (c .before .before .before .before .before .before .before .before .before)))
-    × (c .put-data .last .0 ≡ written (now (c .before .before .before .before .before .before .before .before .before .args .answer)) (aroundIn (c .before .before .before .before .before .before .before .before .before)) (aroundIn (c .before .before .before .before .before .before .before .before .before)) (dataIn (c .before .before .before .before .before .before .before .before .before)))
+same-data : (c : tie.After-put-data) → let start = c .before .before .before .before .before .before .before .before .before in
+    (c .put-data .result ≡ wrote (length (now (start .args .answer))) (aroundIn start) (aroundIn start) (dataIn start))
+    × (c .put-data .last .0 ≡ written (now (start .args .answer)) (aroundIn start) (aroundIn start) (dataIn start))
 same-data c =
-    let start = c .before .before .before .before .before .before .before .before .before in
+    let at-reach-of = c .before .before .before in
+    let at-limit-of = at-reach-of .before in
+    let at-slice-known = at-limit-of .before .before .before in
+    let start = at-slice-known .before .before in
     let a = start .args in
     let t = now (a .table) in
-    let o : Octets t = λ k. omega (arith, c .before .before .before .before .before .before .before .shared-slice-known .given k) in
-    let r = c .before .before .before .reach-of in
-    let n = c .before .before .before .before .limit-of .ensures .0 in
+    let o : Octets t = λ k. omega (arith, at-slice-known .shared-slice-known .given k) in
+    let r = at-reach-of .reach-of in
+    let n = at-limit-of .limit-of .ensures .0 in
     let d =
     ap wire
     ((λ j. dataOf (record { limit = n j; cause = a .cause; ca = a .command .ca }) (now (a .types)) (a .selection) t (r .result))
@@ -54,19 +57,21 @@ same-data c =
     (e .0 ∙ ap (wrote (length out) (aroundIn start) (aroundIn start)) d, e .1 ∙ ap (written out (aroundIn start) (aroundIn start)) d)
 
 -- the whole fits
-room : (c : tie.After-octets) → aroundIn (c .before .before .before .before .before .before .before .before .before .before .before .before .before) + (c .octets .given .0 .0 + aroundIn (c .before .before .before .before .before .before .before .before .before .before .before .before .before)) ≤ length (now (c .before .before .before .before .before .before .before .before .before .before .before .before .before .args .answer))
+room : (c : tie.After-octets) → let start = c .before .before .before .before .before .before .before .before .before .before .before .before .before in aroundIn start + (c .octets .given .0 .0 + aroundIn start) ≤ length (now (start .args .answer))
 room c =
-    let start = c .before .before .before .before .before .before .before .before .before .before .before .before .before in
+    let at-put-data = c .before .before .before .before in
+    let start = at-put-data .before .before .before .before .before .before .before .before .before in
     let a = start .args in
     has-room (tableOf (now (a .table))) (a .command) (now (a .asdu)) (now (a .types)) (a .cause) (a .selection) (now (a .answer)) (start .pre .3 .1) _
-    (sym (same-data (c .before .before .before .before) .0) ∙ c .octets .given .1)
+    (sym (same-data at-put-data .0) ∙ c .octets .given .1)
 
 limit-of-requires : tie.Need-limit-of-requires
 limit-of-requires c κs = search needs
 
 reach-of-requires : tie.Need-reach-of-requires
 reach-of-requires c κs =
-    let p = passed (now (c .before .before .before .before .before .args .table)) (c .before .before .before .before .before .pre .0) .top in
+    let start = c .before .before .before .before .before in
+    let p = passed (now (start .args .table)) (start .pre .0) .top in
     (p .s-high, p .room)
 
 add-before : tie.Need-add-before
@@ -77,16 +82,18 @@ add-before-2 c = search needs
 
 put-data-requires : tie.Need-put-data-requires
 put-data-requires c κs =
-    let start = c .before .before .before .before .before .before .before .before in
+    let at-limit-of = c .before .before .before in
+    let at-slice-known = at-limit-of .before .before .before in
+    let start = at-slice-known .before .before in
     let t = now (start .args .table) in
-    let o : Octets t = λ k. omega (arith, c .before .before .before .before .before .before .shared-slice-known .given k) in
+    let o : Octets t = λ k. omega (arith, at-slice-known .shared-slice-known .given k) in
     let e = c .before .before .reach-of .ensures in
     let eb = ap (λ (x : Reach). x .base) e in
     let en = ap (λ (x : Reach). x .n) e in
     let z = reached t (start .args .command .ca) o (start .pre .0) in
     let lies = z .lies in
     let few = z .few in
-    let l = c .before .before .before .limit-of .ensures in
+    let l = at-limit-of .limit-of .ensures in
     let p = start .pre in
     (omega arith, omega arith, (omega arith, omega arith), p .1, ((l .1, l .2), p .2))
 
@@ -104,46 +111,54 @@ same-length c = search needs
 
 returns : tie.Need-returns
 returns c =
-    let start = c .before .before .before .before .before .before .before .before .before .before .before .before .before .before in
-    let d = same-data (c .before .before .before .before .before) in
+    let at-put-data = c .before .before .before .before .before in
+    let start = at-put-data .before .before .before .before .before .before .before .before .before in
+    let d = same-data at-put-data in
     let a = start .args in
     rw (c .nothing .ensures)
     (no-room (tableOf (now (a .table))) (a .command) (now (a .asdu)) (now (a .types)) (a .cause) (a .selection) (now (a .answer)) (start .pre .3 .1) (sym (d .0) ∙ c .before .enum-told .given .1) _ (d .1))
 
 put-confirmation-requires : tie.Need-put-confirmation-requires
 put-confirmation-requires c κs =
-    let start = c .before .before .before .before .before .before .before .before .before .before .before .before .before .before .before in
+    let at-put-data = c .before .before .before .before .before .before in
+    let start = at-put-data .before .before .before .before .before .before .before .before .before in
     let fits = room (c .before .before) in
     let l = length-confirmation (start .args .command) (now (start .args .asdu)) 7 false (start .pre .3 .1) in
-    let kept = c .before .before .before .before .before .before .put-data .kept .0 in
+    let kept = at-put-data .put-data .kept .0 in
     (omega arith, start .pre .3 .1, omega arith)
 
 add-put-termination : tie.Need-add-put-termination
 add-put-termination c =
-    let start = c .before .before .before .before .before .before .before .before .before .before .before .before .before .before .before .before .before .before .before in
-    let fits = room (c .before .before .before .before .before .before) in
+    let at-octets = c .before .before .before .before .before .before in
+    let start = at-octets .before .before .before .before .before .before .before .before .before .before .before .before .before in
+    let fits = room at-octets in
     let fit = start .good in
     omega arith
 
 put-termination-requires : tie.Need-put-termination-requires
 put-termination-requires c κs =
-    let start = c .before .before .before .before .before .before .before .before .before .before .before .before .before .before .before .before .before .before .before in
-    let fits = room (c .before .before .before .before .before .before) in
-    let kept = c .before .before .before .before .before .before .before .before .before .before .put-data .kept .0 in
-    let again = c .before .before .before .put-confirmation .kept .0 in
+    let at-put-confirmation = c .before .before .before in
+    let at-octets = at-put-confirmation .before .before .before in
+    let at-put-data = at-octets .before .before .before .before in
+    let start = at-put-data .before .before .before .before .before .before .before .before .before in
+    let fits = room at-octets in
+    let kept = at-put-data .put-data .kept .0 in
+    let again = at-put-confirmation .put-confirmation .kept .0 in
     (start .pre .3, omega arith)
 
 add-given : tie.Need-add-given
 add-given c =
-    let start = c .before .before .before .before .before .before .before .before .before .before .before .before .before .before .before .before .before .before .before .before .before .before in
-    let fits = room (c .before .before .before .before .before .before .before .before .before) in
+    let at-octets = c .before .before .before .before .before .before .before .before .before in
+    let start = at-octets .before .before .before .before .before .before .before .before .before .before .before .before .before in
+    let fits = room at-octets in
     let fit = start .good in
     omega arith
 
 add-given-2 : tie.Need-add-given-2
 add-given-2 c =
-    let start = c .before .before .before .before .before .before .before .before .before .before .before .before .before .before .before .before .before .before .before .before .before .before in
-    let fits = room (c .before .before .before .before .before .before .before .before .before) in
+    let at-octets = c .before .before .before .before .before .before .before .before .before in
+    let start = at-octets .before .before .before .before .before .before .before .before .before .before .before .before .before in
+    let fits = room at-octets in
     let fit = start .good in
     omega arith
 
@@ -155,11 +170,15 @@ same-length-2 c = search needs
 
 returns-2 : tie.Need-returns-2
 returns-2 c =
-    let start = c .before .before .before .before .before .before .before .before .before .before .before .before .before .before .before .before .before .before .before .before .before .before .before in
-    let d = same-data (c .before .before .before .before .before .before .before .before .before .before .before .before .before .before) in
+    let at-put-termination = c .before .before .before in
+    let at-put-confirmation = at-put-termination .before .before .before .before in
+    let at-octets = at-put-confirmation .before .before .before in
+    let at-put-data = at-octets .before .before .before .before in
+    let start = at-put-data .before .before .before .before .before .before .before .before .before in
+    let d = same-data at-put-data in
     let a = start .args in
     rw (c .given .ensures)
-    (all-written (tableOf (now (a .table))) (a .command) (now (a .asdu)) (now (a .types)) (a .cause) (a .selection) (now (a .answer)) (start .pre .3 .1) _ (sym (d .0) ∙ c .before .before .before .before .before .before .before .before .before .before .octets .given .1) _ _ _ (d .1) (c .before .before .before .before .before .before .before .put-confirmation .ensures .1) (c .before .before .before .put-termination .ensures))
+    (all-written (tableOf (now (a .table))) (a .command) (now (a .asdu)) (now (a .types)) (a .cause) (a .selection) (now (a .answer)) (start .pre .3 .1) _ (sym (d .0) ∙ at-octets .octets .given .1) _ _ _ (d .1) (at-put-confirmation .put-confirmation .ensures .1) (at-put-termination .put-termination .ensures))
 
 pub report-spec : {M : Type 1} → statement M
 report-spec =

@@ -27,7 +27,8 @@ two-at-requires c κs = search needs
 
 returns : tie.Need-returns Inv-loop μ-loop
 returns c =
-    let l = c .before .before .before .before .loop in
+    let at-loop = c .before .before .before .before in
+    let l = at-loop .loop in
     (c .two-at .ensures .0 ∙ sym (l .inv .0 ∙ address-here _ _ _ (omega arith) (omega arith)), omega arith)
 
 add-station : tie.Need-add-station Inv-loop μ-loop

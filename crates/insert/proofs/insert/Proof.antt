@@ -41,8 +41,8 @@ add-put-two-3 c = search needs
 
 put-two-requires-2 : tie.Need-put-two-requires-2
 put-two-requires-2 c κs =
-    let at-put = c .before .before .before .before .before .before .before in
-    let octet = at-put .before .before .before .before .before .before .slice-known .given in
+    let at-slice-known = c .before .before .before .before .before .before .before .before .before .before .before .before .before in
+    let octet = at-slice-known .slice-known .given in
     (omega arith, omega (arith, octet 4, octet 5))
 
 same-length : tie.Need-same-length

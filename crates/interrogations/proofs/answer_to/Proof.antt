@@ -25,8 +25,10 @@ same-length c = search needs
 returns : tie.Need-returns
 unfolding answerTo
 returns c =
-    let a = c .before .before .before .before .before .before .before .before .before .before .args in
-    let e = ap (answerTo (tableOf (now (a .table))) (a .command) (now (a .asdu)) (now (a .types)) (a .cause)) (c .before .before .before .before .enum-told .given .1) in
+    let at-enum-told = c .before .before .before .before in
+    let start = at-enum-told .before .before .before .before .before .before in
+    let a = start .args in
+    let e = ap (answerTo (tableOf (now (a .table))) (a .command) (now (a .asdu)) (now (a .types)) (a .cause)) (at-enum-told .enum-told .given .1) in
     sends-along _ _ _ _ _ (sym e) (c .before .before .deny .ensures)
 
 report-requires : tie.Need-report-requires
@@ -41,8 +43,10 @@ same-length-2 c = search needs
 returns-2 : tie.Need-returns-2
 unfolding answerTo
 returns-2 c =
-    let a = c .before .before .before .before .before .before .before .before .before .before .before .args in
-    let e = ap (answerTo (tableOf (now (a .table))) (a .command) (now (a .asdu)) (now (a .types)) (a .cause)) (c .before .before .before .before .before .choice .given .1) in
+    let at-choice = c .before .before .before .before .before in
+    let start = at-choice .before .before .before .before .before .before in
+    let a = start .args in
+    let e = ap (answerTo (tableOf (now (a .table))) (a .command) (now (a .asdu)) (now (a .types)) (a .cause)) (at-choice .choice .given .1) in
     sends-along _ _ _ _ _ (sym e) (c .before .before .report .ensures)
 
 pub answer-to-spec : {M : Type 1} → statement M

@@ -35,14 +35,16 @@ returns-2 c =
 
 reach-of-requires : tie.Need-reach-of-requires
 reach-of-requires c κs =
-    let p = passed (now (c .before .before .before .before .before .before .args .table)) (c .before .before .before .before .before .before .pre) .top in
+    let start = c .before .before .before .before .before .before in
+    let p = passed (now (start .args .table)) (start .pre) .top in
     (p .s-high, p .room)
 
 reset-requires : tie.Need-reset-requires
 reset-requires c κs =
-    let start = c .before .before .before .before .before .before .before .before in
+    let at-slice-known = c .before .before .before .before .before .before .before in
+    let start = at-slice-known .before in
     let t = now (start .args .table) in
-    let o : Octets t = λ k. omega (arith, c .before .before .before .before .before .before .before .slice-known .given k) in
+    let o : Octets t = λ k. omega (arith, at-slice-known .slice-known .given k) in
     let e = c .before .reach-of .ensures in
     let eb = ap (λ (x : Reach). x .base) e in
     let en = ap (λ (x : Reach). x .n) e in
@@ -54,14 +56,17 @@ same-length c = search needs
 
 returns-3 : tie.Need-returns-3
 returns-3 c =
-    let start = c .before .before .before .before .before .before .before .before .before .before .before in
+    let at-reach-of = c .before .before .before .before in
+    let at-choice = at-reach-of .before .before .before in
+    let at-slice-known = at-choice .before .before .before in
+    let start = at-slice-known .before in
     let a = start .args in
     let t = now (a .table) in
-    let o : Octets t = λ k. omega (arith, c .before .before .before .before .before .before .before .before .before .before .slice-known .given k) in
-    let r = c .before .before .before .before .reach-of .ensures in
-    let s = c .before .before .before .before .before .before .before .choice .given in
+    let o : Octets t = λ k. omega (arith, at-slice-known .slice-known .given k) in
+    let r = at-reach-of .reach-of .ensures in
+    let s = at-choice .choice .given in
     c .before .before .reset .ensures ∙ (λ j. resetPlaces (s .0 .0) t (r j .base) (r j .n)) ∙ reach-reset t o (start .pre) (a .ca) (s .0 .0)
-    ∙ some-chosen t o (start .pre) (a .ca) (a .qualifier) (a .choice) (s .0 .0) (s .1) (c .before .before .before .before .before .before .before .before .before .if1 .left)
+    ∙ some-chosen t o (start .pre) (a .ca) (a .qualifier) (a .choice) (s .0 .0) (s .1) (at-choice .before .before .if1 .left)
 
 pub apply-counter-freeze-qualifier-spec : {M : Type 1} → statement M
 apply-counter-freeze-qualifier-spec =

@@ -19,13 +19,17 @@ use Rattle.interrogations.proofs.handle_counter_interrogation.Statement
 use Rattle.interrogations.proofs.handle_counter_interrogation.Tie as tie
 
 -- the answer that was sent
-answer-sent : (c : tie.After-answer-to) → Sends (counterAnswer (c .before .before .before .before .before .before .before .before .before .before .args .command) (now (c .before .before .before .before .before .before .before .before .before .before .args .asdu)) (tableOf (now (c .before .before .before .before .before .before .before .before .before .before .args .table)))) (now (c .before .before .before .before .before .before .before .before .before .before .args .answer)) (c .answer-to .result) (c .answer-to .last .0)
+answer-sent : (c : tie.After-answer-to) → let start = c .before .before .before .before .before .before .before .before .before .before in Sends (counterAnswer (start .args .command) (now (start .args .asdu)) (tableOf (now (start .args .table)))) (now (start .args .answer)) (c .answer-to .result) (c .answer-to .last .0)
 unfolding counterAnswer counterTypes
 answer-sent c =
-    let a = c .before .before .before .before .before .before .before .before .before .before .args in
-    let q = c .before .before .before .before .before .before .qualifier-of .ensures in
-    let cause = c .before .before .before .before .counter-interrogation-data-cot .ensures ∙ ap counterCause q in
-    let choice = c .before .before .before .before .before .chosen .ensures ∙ ap chosen q in
+    let at-counter-interrogation-data-cot = c .before .before .before .before in
+    let at-chosen = at-counter-interrogation-data-cot .before in
+    let at-qualifier-of = at-chosen .before in
+    let start = at-qualifier-of .before .before .before .before in
+    let a = start .args in
+    let q = at-qualifier-of .qualifier-of .ensures in
+    let cause = at-counter-interrogation-data-cot .counter-interrogation-data-cot .ensures ∙ ap counterCause q in
+    let choice = at-chosen .chosen .ensures ∙ ap chosen q in
     sends-along _ _ _ _ _ (λ j. answerTo (tableOf (now (a .table))) (a .command) (now (a .asdu)) counterTypes (cause j) (choice j)) (c .answer-to .ensures)
 
 qualifier-of-requires : tie.Need-qualifier-of-requires
@@ -43,12 +47,15 @@ slice-aggregate-answer-to c = search needs
 answer-to-requires : tie.Need-answer-to-requires
 unfolding counterTypes
 answer-to-requires c κs =
-    let start = c .before .before .before .before .before .before .before .before .before in
-    let q = c .before .before .before .before .before .qualifier-of .result in
-    let cause = c .before .before .before .counter-interrogation-data-cot .ensures in
-    let choice = c .before .before .before .before .chosen .ensures in
+    let at-counter-interrogation-data-cot = c .before .before .before in
+    let at-chosen = at-counter-interrogation-data-cot .before in
+    let at-qualifier-of = at-chosen .before in
+    let start = at-qualifier-of .before .before .before .before in
+    let q = at-qualifier-of .qualifier-of .result in
+    let cause = at-counter-interrogation-data-cot .counter-interrogation-data-cot .ensures in
+    let choice = at-chosen .chosen .ensures in
     let caused = subst (λ (x : Choice). CauseOf x (counterCause q)) (sym choice) (chosen-cause q) in
-    (start .pre .0, counter-slots, subst (CauseOf (c .before .before .before .before .chosen .result)) (sym cause) caused, start .pre .1 .0)
+    (start .pre .0, counter-slots, subst (CauseOf (at-chosen .chosen .result)) (sym cause) caused, start .pre .1 .0)
 
 is-done-requires : tie.Need-is-done-requires
 is-done-requires c κs = search needs
@@ -61,8 +68,9 @@ same-length-2 c = search needs
 
 returns : tie.Need-returns
 returns c =
-    let d : isDone (c .before .before .before .before .answer-to .result .outcome) ≡ false = sym (c .before .is-done .ensures) ∙ not-true _ (c .if1 .taken) in
-    (answer-sent (c .before .before .before .before), sym (simp d))
+    let at-answer-to = c .before .before .before .before in
+    let d : isDone (at-answer-to .answer-to .result .outcome) ≡ false = sym (c .before .is-done .ensures) ∙ not-true _ (c .if1 .taken) in
+    (answer-sent at-answer-to, sym (simp d))
 
 apply-counter-freeze-qualifier-requires : tie.Need-apply-counter-freeze-qualifier-requires
 apply-counter-freeze-qualifier-requires c κs = search needs
@@ -76,13 +84,19 @@ same-length-4 c = search needs
 returns-2 : tie.Need-returns-2
 unfolding afterCounters
 returns-2 c =
-    let a = c .before .before .before .before .before .before .before .before .before .before .before .before .before .before .before .before .before .before .args in
+    let at-if1 = c .before .before .before .before in
+    let at-is-done = at-if1 .before in
+    let at-answer-to = at-is-done .before .before .before in
+    let at-chosen = at-answer-to .before .before .before .before .before in
+    let at-qualifier-of = at-chosen .before in
+    let start = at-qualifier-of .before .before .before .before in
+    let a = start .args in
     let t = now (a .table) in
-    let q = c .before .before .before .before .before .before .before .before .before .before .before .before .before .before .qualifier-of .ensures in
-    let choice = c .before .before .before .before .before .before .before .before .before .before .before .before .before .chosen .ensures ∙ ap chosen q in
-    let d : isDone (c .before .before .before .before .before .before .before .before .answer-to .result .outcome) ≡ true = sym (c .before .before .before .before .before .is-done .ensures) ∙ not-false _ (c .before .before .before .before .if1 .left) in
+    let q = at-qualifier-of .qualifier-of .ensures in
+    let choice = at-chosen .chosen .ensures ∙ ap chosen q in
+    let d : isDone (at-answer-to .answer-to .result .outcome) ≡ true = sym (at-is-done .is-done .ensures) ∙ not-false _ (at-if1 .if1 .left) in
     let e = c .before .before .apply-counter-freeze-qualifier .ensures ∙ (λ j. holding t (tableOf t) (pick (resets (q j)) (resetBy (tableOf t) (a .command .ca) (choice j)) (tableOf t))) in
-    (answer-sent (c .before .before .before .before .before .before .before .before), e ∙ sym (simp d))
+    (answer-sent at-answer-to, e ∙ sym (simp d))
 
 pub handle-counter-interrogation-spec : {M : Type 1} → statement M
 handle-counter-interrogation-spec =

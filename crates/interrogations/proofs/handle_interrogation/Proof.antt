@@ -26,10 +26,12 @@ interrogated-requires c κs = search needs
 
 answer-to-requires : tie.Need-answer-to-requires
 answer-to-requires c κs =
-    let start = c .before .before .before .before .before .before .before .before in
+    let at-qualifier-of = c .before .before .before in
+    let at-interrogation-types-of = at-qualifier-of .before in
+    let start = at-interrogation-types-of .before .before .before .before in
     let t = tableOf (now (start .args .table)) in
-    let types = c .before .before .before .before .interrogation-types-of .ensures in
-    let q = c .before .before .before .qualifier-of .result in
+    let types = at-interrogation-types-of .interrogation-types-of .ensures in
+    let q = at-qualifier-of .qualifier-of .result in
     (start .pre .0, subst TypesOk (sym types) (interrogation-slots t), subst (λ (x : Choice). CauseOf x q) (sym (c .interrogated .ensures)) (interrogated-cause q), start .pre .1 .0)
 
 same-length : tie.Need-same-length
@@ -38,11 +40,15 @@ same-length c = search needs
 returns : tie.Need-returns
 unfolding interrogationAnswer
 returns c =
-    let a = c .before .before .before .before .before .before .before .before .before .before .before .args in
+    let at-interrogated = c .before .before .before in
+    let at-qualifier-of = at-interrogated .before .before .before in
+    let at-interrogation-types-of = at-qualifier-of .before in
+    let start = at-interrogation-types-of .before .before .before .before in
+    let a = start .args in
     let t = tableOf (now (a .table)) in
-    let types = c .before .before .before .before .before .before .before .interrogation-types-of .ensures in
-    let q = c .before .before .before .before .before .before .qualifier-of .ensures in
-    let choice = c .before .before .before .interrogated .ensures ∙ ap interrogated q in
+    let types = at-interrogation-types-of .interrogation-types-of .ensures in
+    let q = at-qualifier-of .qualifier-of .ensures in
+    let choice = at-interrogated .interrogated .ensures ∙ ap interrogated q in
     sends-along _ _ _ _ _ (λ j. answerTo t (a .command) (now (a .asdu)) (types j) (q j) (choice j)) (c .before .before .answer-to .ensures)
 
 pub handle-interrogation-spec : {M : Type 1} → statement M

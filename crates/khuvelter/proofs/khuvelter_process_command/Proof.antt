@@ -32,10 +32,10 @@ same-length-3 c = search needs
 
 returns : tie.Need-returns
 returns c =
-    let at-before = c .before .before .before .before .before .before in
-    let at-called = at-before .before in
+    let at-called = c .before .before .before .before .before .before .before in
     let at-flag = at-called .before .before .before in
-    let a = at-flag .before .before .before .before .before .before .before .before .args in
+    let start = at-flag .before .before .before .before .before .before .before .before in
+    let a = start .args in
     let e = at-called .process-command .ensures in
     let l = lent (now (a .table)) [] (now (a .answer)) (now (a .spontaneous)) in
     let f : Bool → Table → Said = λ b. processSaid [] (proposalOf b (a .reply-type) (now (a .reply)) (now (a .updates))) (now (a .asdu)) in

@@ -19,7 +19,8 @@ same-length-2 c = search needs
 
 returns : tie.Need-returns
 returns c =
-    let e = c .before .before .before .before .before .before .system-command .ensures in
+    let at-system-command = c .before .before .before .before .before .before in
+    let e = at-system-command .system-command .ensures in
     record { answered = c .answer-reply .ensures ∙ ap answerReply (e .answers); left = e .leaves }
 
 pub khuvelter-system-command-spec : {M : Type 1} → statement M

@@ -32,15 +32,19 @@ three-at-requires c κs = search needs
 returns-2 : tie.Need-returns-2
 unfolding findAt ioaAt
 returns-2 c =
-    let a = c .before .before .before .before .before .args in
-    let s = c .before .before .before .seek in
+    let at-seek = c .before .before .before in
+    let start = at-seek .before .before in
+    let a = start .args in
+    let s = at-seek .seek in
     held-at (now (a .m)) (a .first) (a .n) (a .ioa) (s .result) (omega arith) (omega arith) ∙ ap (spotAt (now (a .m)) (a .first) (a .n) (a .ioa)) (s .ensures .0)
 
 returns-3 : tie.Need-returns-3
 unfolding findAt ioaAt
 returns-3 c =
-    let a = c .before .before .before .before .before .args in
-    let s = c .before .before .before .seek in
+    let at-seek = c .before .before .before in
+    let start = at-seek .before .before in
+    let a = start .args in
+    let s = at-seek .seek in
     missing-at (now (a .m)) (a .first) (a .n) (a .ioa) (s .result) (omega arith) (omega arith) ∙ ap (spotAt (now (a .m)) (a .first) (a .n) (a .ioa)) (s .ensures .0)
 
 pub find-spec : {M : Type 1} → statement M

@@ -24,10 +24,11 @@ seat-from-requires c κs = search needs
 returns : tie.Need-returns
 unfolding seatAt
 returns c =
-    let m = now (c .before .before .before .before .args .m) in
+    let start = c .before .before .before .before in
+    let m = now (start .args .m) in
     let e4 = c .before .before .capacity-of .ensures .0 in
     let e6 = c .before .stations-of .ensures .0 in
-    c .seat-from .ensures ∙ (λ j. seatIn m (c .before .before .before .before .args .ca) 0 64 (64 + 48 * e4 j) (e6 j))
+    c .seat-from .ensures ∙ (λ j. seatIn m (start .args .ca) 0 64 (64 + 48 * e4 j) (e6 j))
 
 pub seat-at-spec : {M : Type 1} → statement M
 seat-at-spec =

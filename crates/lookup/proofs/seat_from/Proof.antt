@@ -27,8 +27,10 @@ ca-at-requires c κs = search needs
 
 returns : tie.Need-returns Inv-loop μ-loop
 returns c =
-    let m = now (c .before .before .before .before .before .before .args .m) in
-    let l = c .before .before .before .before .loop in
+    let at-loop = c .before .before .before .before in
+    let start = at-loop .before .before in
+    let m = now (start .args .m) in
+    let l = at-loop .loop in
     let h : c .before .before .held-at .result ≡ two m (l .station + 6) = omega arith in
     rw h (sym (l .inv .0 ∙ seat-hit _ _ _ _ _ _ (omega arith) (omega arith)))
 
@@ -52,8 +54,10 @@ loop-less c = search needs
 
 loop-again : tie.Need-loop-again Inv-loop μ-loop
 loop-again c =
-    let m = now (c .before .before .before .before .before .before .args .m) in
-    let l = c .before .before .before .before .loop in
+    let at-loop = c .before .before .before .before in
+    let start = at-loop .before .before in
+    let m = now (start .args .m) in
+    let l = at-loop .loop in
     let h : c .before .before .held-at .result ≡ two m (l .station + 6) = omega arith in
     (l .inv .0 ∙ seat-on _ _ _ _ _ _ (omega arith) (omega arith) ∙ rw h refl, omega arith, omega arith, omega arith, omega arith)
 

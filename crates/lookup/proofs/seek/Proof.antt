@@ -23,7 +23,8 @@ narrow-requires c κs = search needs
 
 loop-less : tie.Need-loop-less Inv-loop μ-loop
 loop-less c =
-    let a = c .before .before .before .before .args in
+    let start = c .before .before .before .before in
+    let a = start .args in
     let l = c .before .before .loop in
     let q = nearer (ioaAt (now (a .m)) (a .first)) (a .ioa) (l .low) (l .high) (omega arith) in
     let near = subst (Nearer (l .low) (l .high)) (sym (c .narrow .ensures)) q in
@@ -31,7 +32,8 @@ loop-less c =
 
 loop-again : tie.Need-loop-again Inv-loop μ-loop
 loop-again c =
-    let a = c .before .before .before .before .args in
+    let start = c .before .before .before .before in
+    let a = start .args in
     let l = c .before .before .loop in
     let key = ioaAt (now (a .m)) (a .first) in
     let q = nearer key (a .ioa) (l .low) (l .high) (omega arith) in

@@ -39,12 +39,16 @@ same-length c = search needs
 
 returns : tie.Need-returns
 returns c =
-    let a = c .before .before .before .before .before .before .before .before .before .before .before .before .before .before .before .before .args in
+    let at-clear = c .before .before .before .before .before .before in
+    let at-copy-in = at-clear .before .before .before .before in
+    let at-head-start = at-copy-in .before .before .before in
+    let start = at-head-start .before .before .before in
+    let a = start .args in
     let plan = now (a .plan) in
     let b = 64 + 48 * a .k in
-    let start = c .before .before .before .before .before .before .before .before .before .before .before .before .before .head-start .ensures in
-    let first = c .before .before .before .before .before .before .before .before .before .before .copy-in .ensures ∙ (λ j. over (now (a .table)) 0 (start j)) in
-    let second = c .before .before .before .before .before .before .clear .ensures ∙ (λ j. over (first j) 14 (replicate (b - 14) 0)) in
+    let head = at-head-start .head-start .ensures in
+    let first = at-copy-in .copy-in .ensures ∙ (λ j. over (now (a .table)) 0 (head j)) in
+    let second = at-clear .clear .ensures ∙ (λ j. over (first j) 14 (replicate (b - 14) 0)) in
     c .before .before .put-stations .ensures
     ∙ (λ j. over (second j) b (entries (planned plan)))
     ∙ written (now (a .table)) (a .k) (a .n) plan (length-planned plan (a .n) (omega arith)) (omega arith)

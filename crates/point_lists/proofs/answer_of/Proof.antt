@@ -25,16 +25,20 @@ is-done-requires c κs = search needs
 returns-2 : tie.Need-returns-2
 unfolding answerOf
 returns-2 c =
-    let a = c .before .before .before .before .args in
-    let h : ltb (numberOf (a .first .outcome)) 19 ≡ false = ap (λ (x : ℕ). ltb x 19) (sym (c .before .before .before .number .ensures)) ∙ le-ltb _ _ (c .before .before .if1 .left) in
+    let at-number = c .before .before .before in
+    let start = at-number .before in
+    let a = start .args in
+    let h : ltb (numberOf (a .first .outcome)) 19 ≡ false = ap (λ (x : ℕ). ltb x 19) (sym (at-number .number .ensures)) ∙ le-ltb _ _ (c .before .before .if1 .left) in
     let d : isDone (a .later .outcome) ≡ true = sym (c .before .is-done .ensures) ∙ c .if2 .taken in
     simp (h, d)
 
 returns-3 : tie.Need-returns-3
 unfolding answerOf
 returns-3 c =
-    let a = c .before .before .before .before .args in
-    let h : ltb (numberOf (a .first .outcome)) 19 ≡ false = ap (λ (x : ℕ). ltb x 19) (sym (c .before .before .before .number .ensures)) ∙ le-ltb _ _ (c .before .before .if1 .left) in
+    let at-number = c .before .before .before in
+    let start = at-number .before in
+    let a = start .args in
+    let h : ltb (numberOf (a .first .outcome)) 19 ≡ false = ap (λ (x : ℕ). ltb x 19) (sym (at-number .number .ensures)) ∙ le-ltb _ _ (c .before .before .if1 .left) in
     let d : isDone (a .later .outcome) ≡ false = sym (c .before .is-done .ensures) ∙ c .if2 .left in
     simp (h, d)
 

@@ -31,10 +31,12 @@ same-length c = search needs
 returns-2 : tie.Need-returns-2
 unfolding judged
 returns-2 c =
-    let a = c .before .before .before .before .before .before .before .args in
-    let f : c .before .before .before .later-fault .result ≡ laterFault (now (a .m)) (a .p) (a .found .found) = c .before .before .before .later-fault .ensures in
+    let at-later-fault = c .before .before .before in
+    let start = at-later-fault .before .before .before .before in
+    let a = start .args in
+    let f : at-later-fault .later-fault .result ≡ laterFault (now (a .m)) (a .p) (a .found .found) = at-later-fault .later-fault .ensures in
     let d : isDone (laterFault (now (a .m)) (a .p) (a .found .found)) ≡ true = ap isDone (sym f) ∙ sym (c .before .before .is-done .ensures) ∙ c .before .if2 .taken in
-    (simp (le-ltb _ _ (c .before .before .before .before .before .if1 .left), d) (c .passed2 .ensures), refl)
+    (simp (le-ltb _ _ (at-later-fault .before .before .if1 .left), d) (c .passed2 .ensures), refl)
 
 same-length-2 : tie.Need-same-length-2
 same-length-2 c = search needs
@@ -42,10 +44,12 @@ same-length-2 c = search needs
 returns-3 : tie.Need-returns-3
 unfolding judged
 returns-3 c =
-    let a = c .before .before .before .before .before .before .args in
-    let f : c .before .before .later-fault .result ≡ laterFault (now (a .m)) (a .p) (a .found .found) = c .before .before .later-fault .ensures in
+    let at-later-fault = c .before .before in
+    let start = at-later-fault .before .before .before .before in
+    let a = start .args in
+    let f : at-later-fault .later-fault .result ≡ laterFault (now (a .m)) (a .p) (a .found .found) = at-later-fault .later-fault .ensures in
     let d : isDone (laterFault (now (a .m)) (a .p) (a .found .found)) ≡ false = ap isDone (sym f) ∙ sym (c .before .is-done .ensures) ∙ c .if2 .left in
-    (simp (le-ltb _ _ (c .before .before .before .before .if1 .left), d, f), refl)
+    (simp (le-ltb _ _ (at-later-fault .before .before .if1 .left), d, f), refl)
 
 pub judge-spec : {M : Type 1} → statement M
 judge-spec =

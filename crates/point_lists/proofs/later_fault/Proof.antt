@@ -43,11 +43,14 @@ with-twice-requires c κs = search needs
 returns-2 : tie.Need-returns-2
 unfolding laterFault
 returns-2 c =
-    let a = c .before .before .before .before .before .before .before .args in
+    let at-record-of = c .before .before .before in
+    let at-well-formed = at-record-of .before .before in
+    let start = at-well-formed .before .before in
+    let a = start .args in
     let m = now (a .m) in
-    let w : wellFormed m ≡ true = sym (c .before .before .before .before .before .well-formed .ensures) ∙ not-false _ (c .before .before .before .before .if1 .left) in
-    let o : c .before .own-tests .result ≡ ownTests (tableOf m) [] 0 (requestsIn (c .before .before .before .record-of .result)) = c .before .own-tests .ensures in
-    let e = ap requestsIn (c .before .before .before .record-of .ensures) ∙ alone-law (a .p) in
+    let w : wellFormed m ≡ true = sym (at-well-formed .well-formed .ensures) ∙ not-false _ (at-record-of .before .if1 .left) in
+    let o : c .before .own-tests .result ≡ ownTests (tableOf m) [] 0 (requestsIn (at-record-of .record-of .result)) = c .before .own-tests .ensures in
+    let e = ap requestsIn (at-record-of .record-of .ensures) ∙ alone-law (a .p) in
     let f = ap (λ (r : Reply). r .outcome) (o ∙ ap (ownTests (tableOf m) [] 0) e) in
     simp w (c .with-twice .ensures ∙ ap (λ z. withTwice z (a .found)) f)
 

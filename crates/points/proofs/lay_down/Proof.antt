@@ -31,10 +31,12 @@ same-length c = search needs
 returns : tie.Need-returns
 unfolding stepped
 returns c =
-    let b = c .before .before .before .before .before .before in
-    let a = b .before .before .args in
-    let h = lt-ltb _ _ (b .if1 .taken) in
-    (simp h, simp h (c .before .before .copy-in .ensures ∙ ap (λ (l : List ℕ). over (now (a .m)) (24 * a .s .count) l) (c .before .before .before .before .before .record-of .ensures)))
+    let at-record-of = c .before .before .before .before .before in
+    let at-if1 = at-record-of .before in
+    let start = at-if1 .before .before in
+    let a = start .args in
+    let h = lt-ltb _ _ (at-if1 .if1 .taken) in
+    (simp h, simp h (c .before .before .copy-in .ensures ∙ ap (λ (l : List ℕ). over (now (a .m)) (24 * a .s .count) l) (at-record-of .record-of .ensures)))
 
 returns-2 : tie.Need-returns-2
 unfolding stepped

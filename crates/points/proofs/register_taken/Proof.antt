@@ -17,7 +17,8 @@ slice-reshare-prefix-register-points c = search needs
 
 slice-aggregate-register-points : tie.Need-slice-aggregate-register-points
 slice-aggregate-register-points c =
-    let a = c .before .before .before .before .before .args in
+    let start = c .before .before .before .before .before in
+    let a = start .args in
     let h : 24 * a .taken .count ≤ length (now (a .records)) = omega arith in
     sym (length-take-le (24 * a .taken .count) (now (a .records)) h)
 

@@ -21,8 +21,10 @@ add-t8 c = search needs
 
 shared-slice-read-point-octets : tie.Need-shared-slice-read-point-octets
 shared-slice-read-point-octets c =
-    let a = c .before .before .before .before .before .before .args in
-    let h = held-inside (now (a .m)) (a .first) (a .h) (a .ioa) _ (sym (c .before .before .before .before .find .ensures) ∙ c .before .before .spot .given .1) in
+    let at-find = c .before .before .before .before in
+    let start = at-find .before .before in
+    let a = start .args in
+    let h = held-inside (now (a .m)) (a .first) (a .h) (a .ioa) _ (sym (at-find .find .ensures) ∙ c .before .before .spot .given .1) in
     omega arith
 
 point-octets-requires : tie.Need-point-octets-requires
@@ -37,14 +39,18 @@ enum-told c = search needs
 returns : tie.Need-returns
 unfolding askedOf
 returns c =
-    let m = now (c .before .before .before .before .before .before .before .args .m) in
-    let e = sym (c .before .before .before .before .before .find .ensures) ∙ c .before .before .before .spot .given .1 in
+    let at-spot = c .before .before .before in
+    let at-find = at-spot .before .before in
+    let start = at-find .before .before in
+    let m = now (start .args .m) in
+    let e = sym (at-find .find .ensures) ∙ at-spot .spot .given .1 in
     ap (λ (n : ℕ). Known (9 + n)) (c .point-octets .ensures .0) ∙ sym (ap (askedOf m) e)
 
 returns-2 : tie.Need-returns-2
 unfolding askedOf
 returns-2 c =
-    let m = now (c .before .before .before .before .args .m) in
+    let start = c .before .before .before .before in
+    let m = now (start .args .m) in
     sym (ap (askedOf m) (sym (c .before .before .find .ensures) ∙ c .enum-told .given .1))
 
 pub found-octets-spec : {M : Type 1} → statement M

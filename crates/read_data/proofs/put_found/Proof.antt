@@ -23,13 +23,16 @@ enum-told c = search needs
 
 returns : tie.Need-returns
 returns c =
-    let a = c .before .before .before .before .before .args in
+    let start = c .before .before .before .before .before in
+    let a = start .args in
     nothing-found (now (a .m)) (now (a .out)) (a .ca) (a .o) _ _ (sym (c .before .before .find .ensures) ∙ c .enum-told .given .1)
 
 put-single-requires : tie.Need-put-single-requires
 put-single-requires c κs =
-    let a = c .before .before .before .before .before .before .before .args in
-    let e = sym (c .before .before .before .before .find .ensures) ∙ c .before .before .at .given .1 in
+    let at-find = c .before .before .before .before in
+    let start = at-find .before .before .before in
+    let a = start .args in
+    let e = sym (at-find .find .ensures) ∙ c .before .before .at .given .1 in
     let h = held-inside (now (a .m)) (a .first) (a .h) (a .ioa) _ e in
     let l = ap length (found-is (now (a .m)) (a .ca) _ _ e) in
     (omega arith, omega arith, omega arith)
@@ -39,8 +42,11 @@ same-length c = search needs
 
 returns-2 : tie.Need-returns-2
 returns-2 c =
-    let a = c .before .before .before .before .before .before .before .before .before .before .args in
-    let e = sym (c .before .before .before .before .before .before .before .find .ensures) ∙ c .before .before .before .before .before .at .given .1 in
+    let at-at = c .before .before .before .before .before in
+    let at-find = at-at .before .before in
+    let start = at-find .before .before .before in
+    let a = start .args in
+    let e = sym (at-find .find .ensures) ∙ at-at .at .given .1 in
     let f = sym (found-is (now (a .m)) (a .ca) _ _ e) in
     let p = c .before .before .put-single .ensures in
     (p .0 ∙ ap (λ (x : List ℕ). a .o + length x) f, p .1 ∙ ap (over (now (a .out)) (a .o)) f)

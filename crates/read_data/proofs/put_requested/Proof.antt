@@ -48,10 +48,12 @@ loop-less c = search needs
 
 loop-again : tie.Need-loop-again Inv-loop μ-loop
 loop-again c =
-    let start = c .before .before .before .before .before .before .before .before .before .before in
+    let at-three-at = c .before .before .before .before in
+    let at-loop = at-three-at .before .before in
+    let start = at-loop .before .before .before .before in
     let a = start .args in
-    let l = c .before .before .before .before .before .before .loop in
-    let i = c .before .before .before .before .three-at .ensures .0 in (
+    let l = at-loop .loop in
+    let i = at-three-at .three-at .ensures .0 in (
       next-in (now (a .m)) (a .first) (a .h) (a .command .ca) (now (a .asdu)) (now (a .out)) _ (l .out) (a .from) (l .o) (l .at) (l .left) (l .inv .0) (start .pre .1) (omega arith)
           _ _ _ i (c .before .before .put-found .ensures),
       omega arith,

@@ -38,16 +38,21 @@ enum-told c = search needs
 
 returns : tie.Need-returns Inv-loop μ-loop
 returns c =
-    let a = c .before .before .before .before .before .before .before .before .args in
+    let at-three-at = c .before .before .before in
+    let at-loop = at-three-at .before .before in
+    let start = at-loop .before .before .before in
+    let a = start .args in
     let m = now (a .m) in
-    let l = c .before .before .before .before .before .loop in
-    let e = sym (c .enum-told .given .1) ∙ c .before .before .found-octets .ensures ∙ ap (λ (x : ℕ). askedOf m (findAt m (a .first) (a .h) x)) (c .before .before .before .three-at .ensures .0) in
+    let l = at-loop .loop in
+    let e = sym (c .enum-told .given .1) ∙ c .before .before .found-octets .ensures ∙ ap (λ (x : ℕ). askedOf m (findAt m (a .first) (a .h) x)) (at-three-at .three-at .ensures .0) in
     sym (l .inv .0 ∙ asked-missing m (a .first) (a .h) (now (a .asdu)) (l .at) (l .left) (omega arith) (l .octets) e)
 
 add-octets : tie.Need-add-octets Inv-loop μ-loop
 add-octets c =
-    let a = c .before .before .before .before .before .before .before .before .before .args in
-    let s = asked-small (now (a .m)) _ _ (sym (c .before .more .given .1) ∙ c .before .before .before .found-octets .ensures) in
+    let at-found-octets = c .before .before .before in
+    let start = at-found-octets .before .before .before .before .before .before in
+    let a = start .args in
+    let s = asked-small (now (a .m)) _ _ (sym (c .before .more .given .1) ∙ at-found-octets .found-octets .ensures) in
     omega arith
 
 add-at : tie.Need-add-at Inv-loop μ-loop
@@ -61,17 +66,22 @@ loop-less c = search needs
 
 loop-again : tie.Need-loop-again Inv-loop μ-loop
 loop-again c =
-    let a = c .before .before .before .before .before .before .before .before .before .args in
+    let at-found-octets = c .before .before .before in
+    let at-three-at = at-found-octets .before in
+    let at-loop = at-three-at .before .before in
+    let start = at-loop .before .before .before in
+    let a = start .args in
     let m = now (a .m) in
-    let l = c .before .before .before .before .before .before .loop in
-    let k = sym (c .before .more .given .1) ∙ c .before .before .before .found-octets .ensures in
+    let l = at-loop .loop in
+    let k = sym (c .before .more .given .1) ∙ at-found-octets .found-octets .ensures in
     let s = asked-small m _ _ k in
-    let e = k ∙ ap (λ (x : ℕ). askedOf m (findAt m (a .first) (a .h) x)) (c .before .before .before .before .three-at .ensures .0) in
+    let e = k ∙ ap (λ (x : ℕ). askedOf m (findAt m (a .first) (a .h) x)) (at-three-at .three-at .ensures .0) in
     (l .inv .0 ∙ asked-on m (a .first) (a .h) (now (a .asdu)) (l .at) (l .left) (omega arith) (l .octets) _ e, omega arith, omega arith, omega arith)
 
 returns-2 : tie.Need-returns-2 Inv-loop μ-loop
 returns-2 c =
-    let a = c .before .before .before .before .args in
+    let start = c .before .before .before .before in
+    let a = start .args in
     let l = c .before .loop in
     sym (l .inv .0 ∙ asked-end (now (a .m)) (a .first) (a .h) (now (a .asdu)) (l .at) (l .left) (l .octets) (omega arith))
 

@@ -53,7 +53,9 @@ shared-slice-read-t22 c = search needs
 
 returns : tie.Need-returns
 unfolding gets
-returns c = ap (λ (l : List ℕ). l ++ (1 ∷ [])) (gets-drop 9 7 (now (c .before .before .before .before .before .before .before .args .asdu)) (omega arith))
+returns c =
+    let start = c .before .before .before .before .before .before .before in
+    ap (λ (l : List ℕ). l ++ (1 ∷ [])) (gets-drop 9 7 (now (start .args .asdu)) (omega arith))
 
 pub clock-of-spec : {M : Type 1} → statement M
 clock-of-spec =

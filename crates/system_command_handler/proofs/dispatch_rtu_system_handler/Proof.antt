@@ -49,11 +49,13 @@ same-length-2 c = search needs
 
 returns : tie.Need-returns
 returns c =
-    let start = c .before .before .before .before .before .before .before .before .before .before in
+    let at-handle-interrogation = c .before .before .before in
+    let at-slice-known = at-handle-interrogation .before .before .before .before .before .before in
+    let start = at-slice-known .before in
     let a = start .args in
-    let o : Octets (now (a .table)) = λ i. omega (arith, c .before .before .before .before .before .before .before .before .before .slice-known .given i) in
-    let S = said-interrogation (a .clock) (now (a .asdu)) (a .command) (tableOf (now (a .table))) (c .before .before .before .before .before .before .if1 .taken) in
-    rw (c .with-clock .ensures) (ends-says (saidIn start) (lentIn start) (start .pre .0) o _ (a .clock) S _ _ _ (c .before .before .before .handle-interrogation .ensures) (same-clock (isDone (c .before .before .before .handle-interrogation .result .outcome)) (a .clock)))
+    let o : Octets (now (a .table)) = λ i. omega (arith, at-slice-known .slice-known .given i) in
+    let S = said-interrogation (a .clock) (now (a .asdu)) (a .command) (tableOf (now (a .table))) (at-handle-interrogation .before .before .before .if1 .taken) in
+    rw (c .with-clock .ensures) (ends-says (saidIn start) (lentIn start) (start .pre .0) o _ (a .clock) S _ _ _ (at-handle-interrogation .handle-interrogation .ensures) (same-clock (isDone (at-handle-interrogation .handle-interrogation .result .outcome)) (a .clock)))
 
 handle-counter-interrogation-requires : tie.Need-handle-counter-interrogation-requires
 handle-counter-interrogation-requires c κs =
@@ -75,11 +77,13 @@ same-length-4 c = search needs
 
 returns-2 : tie.Need-returns-2
 returns-2 c =
-    let start = c .before .before .before .before .before .before .before .before .before .before .before .before .before in
+    let at-handle-counter-interrogation = c .before .before .before .before .before in
+    let at-if1 = at-handle-counter-interrogation .before .before .before .before in
+    let start = at-if1 .before .before .before .before in
     let a = start .args in
-    let S = said-counters (a .clock) (now (a .asdu)) (a .command) (tableOf (now (a .table))) (c .before .before .before .before .before .before .before .before .before .if1 .left) (c .before .before .before .before .before .before .before .before .if2 .taken) in
-    let e = c .before .before .before .before .before .handle-counter-interrogation .ensures in
-    let b = isDone (c .before .before .before .before .before .handle-counter-interrogation .result .outcome) in
+    let S = said-counters (a .clock) (now (a .asdu)) (a .command) (tableOf (now (a .table))) (at-if1 .if1 .left) (at-handle-counter-interrogation .before .before .before .if2 .taken) in
+    let e = at-handle-counter-interrogation .handle-counter-interrogation .ensures in
+    let b = isDone (at-handle-counter-interrogation .handle-counter-interrogation .result .outcome) in
     let t = now (a .table) in
     rw (c .with-clock2 .ensures)
     (ends-sent (saidIn start) (lentIn start) (start .pre .0) _ (ap (λ (s : Said). s .outcome) S) (ap (λ (s : Said). s .told) S) (ap (λ (s : Said). s .answer) S) _ _ _ _ (e .0)
@@ -104,11 +108,14 @@ same-length-6 c = search needs
 
 returns-3 : tie.Need-returns-3
 returns-3 c =
-    let start = c .before .before .before .before .before .before .before .before .before .before .before .before in
+    let at-handle-read = c .before .before .before in
+    let at-if2 = at-handle-read .before .before .before .before in
+    let at-slice-known = at-if2 .before .before .before .before in
+    let start = at-slice-known .before in
     let a = start .args in
-    let o : Octets (now (a .table)) = λ i. omega (arith, c .before .before .before .before .before .before .before .before .before .before .before .slice-known .given i) in
-    let S = said-read (a .clock) (now (a .asdu)) (a .command) (tableOf (now (a .table))) (c .before .before .before .before .before .before .before .before .if1 .left) (c .before .before .before .before .before .before .before .if2 .left) (c .before .before .before .before .before .before .if3 .taken) in
-    rw (c .with-clock3 .ensures) (ends-says (saidIn start) (lentIn start) (start .pre .0) o _ (a .clock) S _ _ _ (c .before .before .before .handle-read .ensures) (same-clock (isDone (c .before .before .before .handle-read .result .outcome)) (a .clock)))
+    let o : Octets (now (a .table)) = λ i. omega (arith, at-slice-known .slice-known .given i) in
+    let S = said-read (a .clock) (now (a .asdu)) (a .command) (tableOf (now (a .table))) (at-if2 .before .if1 .left) (at-if2 .if2 .left) (at-handle-read .before .before .before .if3 .taken) in
+    rw (c .with-clock3 .ensures) (ends-says (saidIn start) (lentIn start) (start .pre .0) o _ (a .clock) S _ _ _ (at-handle-read .handle-read .ensures) (same-clock (isDone (at-handle-read .handle-read .result .outcome)) (a .clock)))
 
 handle-clock-sync-requires : tie.Need-handle-clock-sync-requires
 handle-clock-sync-requires c κs =
@@ -122,15 +129,19 @@ same-length-7 c = search needs
 
 returns-4 : tie.Need-returns-4
 returns-4 c =
-    let start = c .before .before .before .before .before .before .before .before .before .before .before in
+    let at-if4 = c .before .before .before .before in
+    let at-slice-known = at-if4 .before .before .before .before .before .before in
+    let start = at-slice-known .before in
     let a = start .args in
-    let o : Octets (now (a .table)) = λ i. omega (arith, c .before .before .before .before .before .before .before .before .before .before .slice-known .given i) in
-    let S = said-clock (a .clock) (now (a .asdu)) (a .command) (tableOf (now (a .table))) (c .before .before .before .before .before .before .before .if1 .left) (c .before .before .before .before .before .before .if2 .left) (c .before .before .before .before .before .if3 .left) (c .before .before .before .before .if4 .taken) in
+    let o : Octets (now (a .table)) = λ i. omega (arith, at-slice-known .slice-known .given i) in
+    let S = said-clock (a .clock) (now (a .asdu)) (a .command) (tableOf (now (a .table))) (at-if4 .before .before .before .if1 .left) (at-if4 .before .before .if2 .left) (at-if4 .before .if3 .left) (at-if4 .if4 .taken) in
     let e = c .before .before .handle-clock-sync .ensures in
     ends-says (saidIn start) (lentIn start) (start .pre .0) o _ _ S _ _ _ (e .0) (e .1)
 
 echo-requires : tie.Need-echo-requires
-echo-requires c κs = sizesIn (c .before .before .before .before .before .before .before .before) .octets
+echo-requires c κs =
+    let start = c .before .before .before .before .before .before .before .before in
+    sizesIn start .octets
 
 with-clock-requires-4 : tie.Need-with-clock-requires-4
 with-clock-requires-4 c κs = search needs
@@ -140,11 +151,14 @@ same-length-8 c = search needs
 
 returns-5 : tie.Need-returns-5
 returns-5 c =
-    let start = c .before .before .before .before .before .before .before .before .before .before .before .before in
+    let at-echo = c .before .before .before in
+    let at-if2 = at-echo .before .before .before .before in
+    let at-slice-known = at-if2 .before .before .before .before in
+    let start = at-slice-known .before in
     let a = start .args in
-    let o : Octets (now (a .table)) = λ i. omega (arith, c .before .before .before .before .before .before .before .before .before .before .before .slice-known .given i) in
-    let S = said-echo (a .clock) (now (a .asdu)) (a .command) (tableOf (now (a .table))) (c .before .before .before .before .before .before .before .before .if1 .left) (c .before .before .before .before .before .before .before .if2 .left) (c .before .before .before .before .before .before .if3 .left) (c .before .before .before .before .before .if4 .left) in
-    rw (c .with-clock4 .ensures) (ends-says (saidIn start) (lentIn start) (start .pre .0) o _ (a .clock) S _ _ _ (c .before .before .before .echo .ensures) (same-clock (isDone (c .before .before .before .echo .result .outcome)) (a .clock)))
+    let o : Octets (now (a .table)) = λ i. omega (arith, at-slice-known .slice-known .given i) in
+    let S = said-echo (a .clock) (now (a .asdu)) (a .command) (tableOf (now (a .table))) (at-if2 .before .if1 .left) (at-if2 .if2 .left) (at-echo .before .before .before .if3 .left) (at-echo .before .before .if4 .left) in
+    rw (c .with-clock4 .ensures) (ends-says (saidIn start) (lentIn start) (start .pre .0) o _ (a .clock) S _ _ _ (at-echo .echo .ensures) (same-clock (isDone (at-echo .echo .result .outcome)) (a .clock)))
 
 pub dispatch-rtu-system-handler-spec : {M : Type 1} → statement M
 dispatch-rtu-system-handler-spec =

@@ -21,8 +21,9 @@ same-length c = search needs
 
 returns : tie.Need-returns
 returns c =
-    let d : isDone (c .before .before .before .before .before .echo .result .outcome) ≡ false = sym (c .before .before .is-done .ensures) ∙ not-true _ (c .before .if1 .taken) in
-    rw (c .with-clock .ensures) (c .before .before .before .before .before .echo .ensures, sym (simp d))
+    let at-echo = c .before .before .before .before .before in
+    let d : isDone (at-echo .echo .result .outcome) ≡ false = sym (c .before .before .is-done .ensures) ∙ not-true _ (c .before .if1 .taken) in
+    rw (c .with-clock .ensures) (at-echo .echo .ensures, sym (simp d))
 
 clock-of-requires : tie.Need-clock-of-requires
 clock-of-requires c κs = search needs
@@ -35,8 +36,10 @@ same-length-2 c = search needs
 
 returns-2 : tie.Need-returns-2
 returns-2 c =
-    let d : isDone (c .before .before .before .before .before .before .echo .result .outcome) ≡ true = sym (c .before .before .before .is-done .ensures) ∙ not-false _ (c .before .before .if1 .left) in
-    rw (c .with-clock2 .ensures) (c .before .before .before .before .before .before .echo .ensures, c .before .clock-of .ensures ∙ sym (simp d))
+    let at-is-done = c .before .before .before in
+    let at-echo = at-is-done .before .before .before in
+    let d : isDone (at-echo .echo .result .outcome) ≡ true = sym (at-is-done .is-done .ensures) ∙ not-false _ (c .before .before .if1 .left) in
+    rw (c .with-clock2 .ensures) (at-echo .echo .ensures, c .before .clock-of .ensures ∙ sym (simp d))
 
 pub handle-clock-sync-spec : {M : Type 1} → statement M
 handle-clock-sync-spec =

@@ -48,9 +48,10 @@ with-clock-requires c κs = search needs
 
 returns : tie.Need-returns
 returns c =
-    let start = c .before .before .before .before .before .before .before .before in
+    let at-first-object = c .before .before .before .before in
+    let start = at-first-object .before .before .before .before in
     let a = start .args in
-    let n = no-first (a .command) (now (a .asdu)) (sym (c .before .before .before .before .first-object .ensures) ∙ c .before .before .enum-told2 .given .1) in
+    let n = no-first (a .command) (now (a .asdu)) (sym (at-first-object .first-object .ensures) ∙ c .before .before .enum-told2 .given .1) in
     rw (c .with-clock .ensures, c .before .nothing .ensures)
     (ends-refused (saidIn start) (lentIn start) (start .pre .0) Silent (silent-in start (silent-none (a .command) (now (a .asdu)) n)) refl)
 
@@ -65,17 +66,21 @@ with-clock-requires-2 c κs = search needs
 
 returns-2 : tie.Need-returns-2
 returns-2 c =
-    let start = c .before .before .before .before .before .before .before .before .before .before in
+    let at-is-skipped = c .before .before .before in
+    let at-first-object = at-is-skipped .before .before .before in
+    let start = at-first-object .before .before .before .before in
     let a = start .args in
-    let n = first-is (a .command) (now (a .asdu)) _ _ (sym (c .before .before .before .before .before .before .first-object .ensures) ∙ c .before .before .before .before .enum-told .given .1) .some in
-    let s : isSilent (a .command) (now (a .asdu)) ≡ true = silent-some (a .command) (now (a .asdu)) n ∙ sym (c .before .before .before .is-skipped .ensures) ∙ c .before .before .if1 .taken in
+    let n = first-is (a .command) (now (a .asdu)) _ _ (sym (at-first-object .first-object .ensures) ∙ at-is-skipped .before .enum-told .given .1) .some in
+    let s : isSilent (a .command) (now (a .asdu)) ≡ true = silent-some (a .command) (now (a .asdu)) n ∙ sym (at-is-skipped .is-skipped .ensures) ∙ c .before .before .if1 .taken in
     rw (c .with-clock2 .ensures, c .before .nothing2 .ensures) (ends-refused (saidIn start) (lentIn start) (start .pre .0) Silent (silent-in start s) refl)
 
 dispatch-rtu-system-handler-requires : tie.Need-dispatch-rtu-system-handler-requires
 dispatch-rtu-system-handler-requires c κs =
-    let start = c .before .before .before .before .before .before .before .before .before .before in
+    let at-enum-told = c .before .before .before .before in
+    let at-first-object = at-enum-told .before .before in
+    let start = at-first-object .before .before .before .before in
     let a = start .args in
-    let n = first-is (a .command) (now (a .asdu)) _ _ (sym (c .before .before .before .before .before .before .first-object .ensures) ∙ c .before .before .before .before .enum-told .given .1) .some in
+    let n = first-is (a .command) (now (a .asdu)) _ _ (sym (at-first-object .first-object .ensures) ∙ at-enum-told .enum-told .given .1) .some in
     (start .pre .0, start .pre .1, n)
 
 same-length : tie.Need-same-length
@@ -86,12 +91,15 @@ same-length-2 c = search needs
 
 returns-3 : tie.Need-returns-3
 returns-3 c =
-    let start = c .before .before .before .before .before .before .before .before .before .before .before .before .before .before .before in
+    let at-dispatch-rtu-system-handler = c .before .before .before .before in
+    let at-is-skipped = at-dispatch-rtu-system-handler .before .before .before .before in
+    let at-first-object = at-is-skipped .before .before .before in
+    let start = at-first-object .before .before .before .before in
     let a = start .args in
-    let n = first-is (a .command) (now (a .asdu)) _ _ (sym (c .before .before .before .before .before .before .before .before .before .before .before .first-object .ensures) ∙ c .before .before .before .before .before .before .before .before .before .enum-told .given .1) .some in
-    let s : isSilent (a .command) (now (a .asdu)) ≡ false = silent-some (a .command) (now (a .asdu)) n ∙ sym (c .before .before .before .before .before .before .before .before .is-skipped .ensures) ∙ c .before .before .before .before .before .before .before .if1 .left in
+    let n = first-is (a .command) (now (a .asdu)) _ _ (sym (at-first-object .first-object .ensures) ∙ at-is-skipped .before .enum-told .given .1) .some in
+    let s : isSilent (a .command) (now (a .asdu)) ≡ false = silent-some (a .command) (now (a .asdu)) n ∙ sym (at-is-skipped .is-skipped .ensures) ∙ at-dispatch-rtu-system-handler .before .before .before .if1 .left in
     let taken = taken-says (a .clock) (now (a .asdu)) (tableOf (now (a .table))) (a .command) (start .pre .1) s in
-    ends-alike _ (lentIn start) (start .pre .0) (saidIn start) taken _ _ (c .before .before .before .before .dispatch-rtu-system-handler .ensures)
+    ends-alike _ (lentIn start) (start .pre .0) (saidIn start) taken _ _ (at-dispatch-rtu-system-handler .dispatch-rtu-system-handler .ensures)
 
 pub handle-ingress-asdu-spec : {M : Type 1} → statement M
 handle-ingress-asdu-spec =

@@ -28,8 +28,10 @@ returns c =
 returns-2 : tie.Need-returns-2
 unfolding _&_
 returns-2 c =
-    let e : causeTaken (c .before .before .before .before .before .args .command .kind) (c .before .before .before .before .before .args .command .cause) ≡ true = sym (c .before .before .before .is-system-command-cot .ensures) ∙ not-false _ (c .before .before .if1 .left) in
-    sym (ap (skipped (c .before .before .before .before .before)) e ∙ simp (ne-eqb _ _ (c .if2 .taken)))
+    let at-is-system-command-cot = c .before .before .before in
+    let start = at-is-system-command-cot .before .before in
+    let e : causeTaken (start .args .command .kind) (start .args .command .cause) ≡ true = sym (at-is-system-command-cot .is-system-command-cot .ensures) ∙ not-false _ (c .before .before .if1 .left) in
+    sym (ap (skipped start) e ∙ simp (ne-eqb _ _ (c .if2 .taken)))
 
 add-if3 : tie.Need-add-if3
 add-if3 c = search needs
@@ -37,11 +39,13 @@ add-if3 c = search needs
 returns-3 : tie.Need-returns-3
 unfolding _&_
 returns-3 c =
-    let m = now (c .before .before .before .before .before .before .args .asdu) in
-    let e : causeTaken (c .before .before .before .before .before .before .args .command .kind) (c .before .before .before .before .before .before .args .command .cause) ≡ true = sym (c .before .before .before .before .is-system-command-cot .ensures) ∙ not-false _ (c .before .before .before .if1 .left) in
+    let at-is-system-command-cot = c .before .before .before .before in
+    let start = at-is-system-command-cot .before .before in
+    let m = now (start .args .asdu) in
+    let e : causeTaken (start .args .command .kind) (start .args .command .cause) ≡ true = sym (at-is-system-command-cot .is-system-command-cot .ensures) ∙ not-false _ (c .before .before .before .if1 .left) in
     let h : length m ≤ 9 = omega arith in
     let q : getD m 9 0 ≡ 0 = List·getD-eq-default m 0 {n = 9} h in
-    sym (ap (skipped (c .before .before .before .before .before .before)) e ∙ simp (eq-eqb _ _ (c .before .if2 .left), q))
+    sym (ap (skipped start) e ∙ simp (eq-eqb _ _ (c .before .if2 .left), q))
 
 qualifier-of-requires : tie.Need-qualifier-of-requires
 qualifier-of-requires c κs = search needs
@@ -49,9 +53,12 @@ qualifier-of-requires c κs = search needs
 returns-4 : tie.Need-returns-4
 unfolding _&_
 returns-4 c =
-    let e : causeTaken (c .before .before .before .before .before .before .before .args .command .kind) (c .before .before .before .before .before .before .before .args .command .cause) ≡ true = sym (c .before .before .before .before .before .is-system-command-cot .ensures) ∙ not-false _ (c .before .before .before .before .if1 .left) in
+    let at-if1 = c .before .before .before .before in
+    let at-is-system-command-cot = at-if1 .before in
+    let start = at-is-system-command-cot .before .before in
+    let e : causeTaken (start .args .command .kind) (start .args .command .cause) ≡ true = sym (at-is-system-command-cot .is-system-command-cot .ensures) ∙ not-false _ (at-if1 .if1 .left) in
     let q = c .qualifier-of .ensures in
-    sym (ap (skipped (c .before .before .before .before .before .before .before)) e ∙ simp (eq-eqb _ _ (c .before .before .if2 .left)) (ap (λ (x : ℕ). eqb x 0) (sym q)))
+    sym (ap (skipped start) e ∙ simp (eq-eqb _ _ (c .before .before .if2 .left)) (ap (λ (x : ℕ). eqb x 0) (sym q)))
 
 pub is-skipped-spec : {M : Type 1} → statement M
 is-skipped-spec =

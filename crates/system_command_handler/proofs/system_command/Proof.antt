@@ -26,12 +26,14 @@ abbrev saidIn : tie.Start → Table → Said
 saidIn s = systemSaid (s .args .clock) (now (s .args .asdu))
 
 -- the table is there
-there : (c : tie.Else1) → wellFormed (now (c .before .before .before .before .before .before .args .table)) ≡ true
+there : (c : tie.Else1) → let start = c .before .before .before .before .before .before in wellFormed (now (start .args .table)) ≡ true
 there c = sym (c .before .well-formed .ensures) ∙ not-false _ (c .if1 .left)
 
 -- what was read is what the table's limit allows
-is-read : (c : tie.After-parse) → c .parse .result ≡ readAs (limitOf (tableOf (now (c .before .before .before .before .before .before .before .before .before .args .table)))) SystemCommands (now (c .before .before .before .before .before .before .before .before .before .args .asdu))
-is-read c = c .parse .ensures ∙ ap (λ (n : ℕ). readAs n SystemCommands (now (c .before .before .before .before .before .before .before .before .before .args .asdu))) (c .before .limit-of .ensures .0)
+is-read : (c : tie.After-parse) → let start = c .before .before .before .before .before .before .before .before .before in c .parse .result ≡ readAs (limitOf (tableOf (now (start .args .table)))) SystemCommands (now (start .args .asdu))
+is-read c =
+    let start = c .before .before .before .before .before .before .before .before .before in
+    c .parse .ensures ∙ ap (λ (n : ℕ). readAs n SystemCommands (now (start .args .asdu))) (c .before .limit-of .ensures .0)
 
 well-formed-requires : tie.Need-well-formed-requires
 well-formed-requires c κs = search needs
@@ -74,14 +76,19 @@ same-length-2 c = search needs
 
 returns-2 : tie.Need-returns-2
 returns-2 c =
-    let start = c .before .before .before .before .before .before .before .before .before .before .before .before .before in
+    let at-match = c .before .before .before in
+    let at-parse = at-match .before in
+    let start = at-parse .before .before .before .before .before .before .before .before .before in
     let a = start .args in
     let t = tableOf (now (a .table)) in
-    let z = unread-says (a .clock) (now (a .asdu)) t _ (c .before .before .before .match .keys2) (is-read (c .before .before .before .before)) in
-    rw (c .with-clock2 .ensures, c .before .nothing2 .ensures, c .before .before .outcome .ensures) (ends-refused (saidIn start) (lentIn start) (there (c .before .before .before .before .before .before .before)) _ (z .0) (z .1))
+    let z = unread-says (a .clock) (now (a .asdu)) t _ (at-match .match .keys2) (is-read at-parse) in
+    rw (c .with-clock2 .ensures, c .before .nothing2 .ensures, c .before .before .outcome .ensures) (ends-refused (saidIn start) (lentIn start) (there (at-parse .before .before .before)) _ (z .0) (z .1))
 
 handle-ingress-asdu-requires : tie.Need-handle-ingress-asdu-requires
-handle-ingress-asdu-requires c κs = (there (c .before .before .before .before .before .before .before .before), sym (is-read (c .before .before .before .before .before)) ∙ c .before .before .before .reading .given .1)
+handle-ingress-asdu-requires c κs =
+    let at-reading = c .before .before .before in
+    let at-parse = at-reading .before .before in
+    (there (at-parse .before .before .before), sym (is-read at-parse) ∙ at-reading .reading .given .1)
 
 same-length-3 : tie.Need-same-length-3
 same-length-3 c = search needs

@@ -52,10 +52,13 @@ loop-less c = search needs
 
 loop-again : tie.Need-loop-again Inv-loop μ-loop
 loop-again c =
-    let m = now (c .before .before .before .before .before .before .before .args .m) in
-    let l = c .before .before .before .before .before .loop in
-    let s = c .before .before .before .share-at .result in
-    let e = c .before .before .before .share-at .ensures .0 in
+    let at-share-at = c .before .before .before in
+    let at-loop = at-share-at .before .before in
+    let start = at-loop .before .before in
+    let m = now (start .args .m) in
+    let l = at-loop .loop in
+    let s = at-share-at .share-at .result in
+    let e = at-share-at .share-at .ensures .0 in
     let r : s .reservation ≡ two m (l .station + 2) = ap (λ (x : Share). x .reservation) e in
     let h : s .held ≡ two m (l .station + 6) = ap (λ (x : Share). x .held) e in
     let u = unmet-is s in

@@ -30,33 +30,51 @@ held-at-requires c κs = search needs
 
 places-ok-requires : tie.Need-places-ok-requires Inv-loop μ-loop
 places-ok-requires c κs =
-    let m = now (c .before .before .before .before .before .args .m) in
-    let l = c .before .before .before .loop in
+    let at-loop = c .before .before .before in
+    let start = at-loop .before .before in
+    let m = now (start .args .m) in
+    let l = at-loop .loop in
     let s = sum-on m (l .station) (l .left) (omega arith) heldAt in
-    (omega arith, c .before .before .before .before .before .pre .2)
+    (omega arith, start .pre .2)
+
+-- whether the station's places are good
+places : (c : tie.After-places-ok Inv-loop μ-loop) →
+    let at-loop = c .before .before .before .before in
+    let start = at-loop .before .before in
+    let m = now (start .args .m) in
+    let l = at-loop .loop in
+    placesOk m (l .place) (two m (l .station)) 0 (two m (l .station + 6)) ≡ c .places-ok .result
+places c =
+    let at-held-at = c .before in
+    let at-ca-at = at-held-at .before in
+    let at-loop = at-ca-at .before .before in
+    let start = at-loop .before .before in
+    let h = at-held-at .held-at .ensures .0 in
+    let ca = at-ca-at .ca-at .ensures .0 in
+    sym (c .places-ok .ensures ∙ (λ j. placesOk (now (start .args .m)) (at-loop .loop .place) (ca j) 0 (h j)))
 
 returns : tie.Need-returns Inv-loop μ-loop
 returns c =
-    let m = now (c .before .before .before .before .before .before .before .args .m) in
-    let l = c .before .before .before .before .before .loop in
-    let s = sum-on m (l .station) (l .left) (omega arith) heldAt in
-    let ca = c .before .before .before .ca-at .ensures .0 in
-    let h = c .before .before .held-at .ensures .0 in
-    let e : c .before .places-ok .result ≡ placesOk m (l .place) (two m (l .station)) 0 (two m (l .station + 6)) =
-    c .before .places-ok .ensures ∙ (λ j. placesOk m (l .place) (ca j) 0 (h j)) in
-    sym (l .inv .0 ∙ bodies-off m (l .station) (l .left) (omega arith) (l .place) (sym e ∙ not-true _ (c .if1 .taken)))
+    let at-loop = c .before .before .before .before .before in
+    let start = at-loop .before .before in
+    let l = at-loop .loop in
+    sym (l .inv .0 ∙ bodies-off (now (start .args .m)) (l .station) (l .left) (omega arith) (l .place) (places (c .before) ∙ not-true _ (c .if1 .taken)))
 
 mul-place : tie.Need-mul-place Inv-loop μ-loop
 mul-place c =
-    let m = now (c .before .before .before .before .before .before .before .args .m) in
-    let l = c .before .before .before .before .before .loop in
+    let at-loop = c .before .before .before .before .before in
+    let start = at-loop .before .before in
+    let m = now (start .args .m) in
+    let l = at-loop .loop in
     let s = sum-on m (l .station) (l .left) (omega arith) heldAt in
     omega arith
 
 add-place : tie.Need-add-place Inv-loop μ-loop
 add-place c =
-    let m = now (c .before .before .before .before .before .before .before .args .m) in
-    let l = c .before .before .before .before .before .loop in
+    let at-loop = c .before .before .before .before .before in
+    let start = at-loop .before .before in
+    let m = now (start .args .m) in
+    let l = at-loop .loop in
     let s = sum-on m (l .station) (l .left) (omega arith) heldAt in
     omega arith
 
@@ -71,14 +89,13 @@ loop-less c = search needs
 
 loop-again : tie.Need-loop-again Inv-loop μ-loop
 loop-again c =
-    let m = now (c .before .before .before .before .before .before .before .args .m) in
-    let l = c .before .before .before .before .before .loop in
+    let at-loop = c .before .before .before .before .before in
+    let start = at-loop .before .before in
+    let m = now (start .args .m) in
+    let l = at-loop .loop in
     let s = sum-on m (l .station) (l .left) (omega arith) heldAt in
-    let ca = c .before .before .before .ca-at .ensures .0 in
     let h = c .before .before .held-at .ensures .0 in
-    let e : c .before .places-ok .result ≡ placesOk m (l .place) (two m (l .station)) 0 (two m (l .station + 6)) =
-    c .before .places-ok .ensures ∙ (λ j. placesOk m (l .place) (ca j) 0 (h j)) in
-    (l .inv .0 ∙ bodies-on m (l .station) (l .left) (omega arith) (l .place) (sym e ∙ not-false _ (c .if1 .left)) ∙ ap (λ (x : ℕ). bodiesAt m (l .place + 48 * x) (l .station + 8) (l .left - 1)) (sym h), omega arith, omega arith)
+    (l .inv .0 ∙ bodies-on m (l .station) (l .left) (omega arith) (l .place) (places (c .before) ∙ not-false _ (c .if1 .left)) ∙ ap (λ (x : ℕ). bodiesAt m (l .place + 48 * x) (l .station + 8) (l .left - 1)) (sym h), omega arith, omega arith)
 
 returns-2 : tie.Need-returns-2 Inv-loop μ-loop
 returns-2 c = sym (c .before .loop .inv .0 ∙ bodies-end _ _ _ _ (omega arith))

@@ -32,22 +32,32 @@ stations-of-requires : tie.Need-stations-of-requires
 stations-of-requires c κs = search needs
 
 returns-3 : tie.Need-returns-3
-returns-3 c = no-head (now (c .before .before .before .before .before .before .before .args .m)) (λ w. omega arith)
+returns-3 c =
+    let start = c .before .before .before .before .before .before .before in
+    no-head (now (start .args .m)) (λ w. omega arith)
 
 returns-4 : tie.Need-returns-4
-returns-4 c = no-head (now (c .before .before .before .before .before .before .before .before .args .m)) (λ w. omega arith)
+returns-4 c =
+    let start = c .before .before .before .before .before .before .before .before in
+    no-head (now (start .args .m)) (λ w. omega arith)
 
 returns-5 : tie.Need-returns-5
-returns-5 c = no-head (now (c .before .before .before .before .before .before .before .before .before .args .m)) (λ w. omega arith)
+returns-5 c =
+    let start = c .before .before .before .before .before .before .before .before .before in
+    no-head (now (start .args .m)) (λ w. omega arith)
 
 returns-6 : tie.Need-returns-6
-returns-6 c = no-head (now (c .before .before .before .before .before .before .before .before .before .before .args .m)) (λ w. omega arith)
+returns-6 c =
+    let start = c .before .before .before .before .before .before .before .before .before .before in
+    no-head (now (start .args .m)) (λ w. omega arith)
 
 size-of-requires : tie.Need-size-of-requires
 size-of-requires c κs = search needs
 
 returns-7 : tie.Need-returns-7
-returns-7 c = no-head (now (c .before .before .before .before .before .before .before .before .before .before .before .before .args .m)) (λ w. omega arith)
+returns-7 c =
+    let start = c .before .before .before .before .before .before .before .before .before .before .before .before in
+    no-head (now (start .args .m)) (λ w. omega arith)
 
 settings-ok-requires : tie.Need-settings-ok-requires
 settings-ok-requires c κs = search needs
@@ -64,15 +74,17 @@ returns-9 : tie.Need-returns-9
 unfolding headAt _&_
 returns-9 c =
     let at-settings = c .before .before in
-    let at-mark = c .before .before .before .before .before .before .before .before .before .before .before .before in
-    let m = now (c .before .before .before .before .before .before .before .before .before .before .before .before .before .before .before .args .m) in
+    let at-if2 = at-settings .before .before .before .before .before .before .before .before .before in
+    let at-mark = at-if2 .before in
+    let start = at-mark .before .before .before in
+    let m = now (start .args .m) in
     let long : headSize ≤ length m = omega arith in
     let k-low : 1 ≤ capacityIn m = omega arith in
     let k-high : capacityIn m ≤ mostPlaces = omega arith in
     let s-low : 1 ≤ stationsIn m = omega arith in
     let s-high : stationsIn m ≤ mostStations = omega arith in
     let room : sizeIn m ≤ length m = omega arith in
-    let mark = sym (at-mark .mark-ok .ensures) ∙ not-false _ (c .before .before .before .before .before .before .before .before .before .before .before .if2 .left) in
+    let mark = sym (at-mark .mark-ok .ensures) ∙ not-false _ (at-if2 .if2 .left) in
     let settings = sym (at-settings .settings-ok .ensures) ∙ not-false _ (c .before .if8 .left) in
     simp (le-leb _ _ long, mark, le-leb _ _ k-low, le-leb _ _ k-high, le-leb _ _ s-low, le-leb _ _ s-high, le-leb _ _ room, settings) (c .all-zero .ensures)
 

@@ -23,9 +23,11 @@ add-up-requires c κs = search needs
 returns-2 : tie.Need-returns-2
 unfolding sharesAt _&_
 returns-2 c =
-    let a = c .before .before .before .before .before .before .args in
+    let at-plan-ok = c .before .before .before .before in
+    let start = at-plan-ok .before .before in
+    let a = start .args in
     let q : a .points ≡ sumAt heldAt (now (a .m)) (a .at) (a .n) → ⊥ = omega arith in
-    simp (sym (c .before .before .before .before .plan-ok .ensures) ∙ not-false _ (c .before .before .before .if1 .left), ne-eqb _ _ q)
+    simp (sym (at-plan-ok .plan-ok .ensures) ∙ not-false _ (c .before .before .before .if1 .left), ne-eqb _ _ q)
 
 shares-ok-requires : tie.Need-shares-ok-requires
 shares-ok-requires c κs = search needs
@@ -33,10 +35,13 @@ shares-ok-requires c κs = search needs
 returns-3 : tie.Need-returns-3
 unfolding sharesAt _&_
 returns-3 c =
-    let a = c .before .before .before .before .before .before .before .args in
+    let at-add-up = c .before .before .before in
+    let at-plan-ok = at-add-up .before .before in
+    let start = at-plan-ok .before .before in
+    let a = start .args in
     let q : a .points ≡ sumAt heldAt (now (a .m)) (a .at) (a .n) = omega arith in
-    let s = c .before .before .before .add-up in
-    simp (sym (c .before .before .before .before .before .plan-ok .ensures) ∙ not-false _ (c .before .before .before .before .if1 .left), eq-eqb _ _ q) (c .shares-ok .ensures ∙ (λ j. sharesOk (a .k) (s .ensures .0 j) (a .points) (s .ensures .2 j)))
+    let s = at-add-up .add-up in
+    simp (sym (at-plan-ok .plan-ok .ensures) ∙ not-false _ (at-add-up .before .if1 .left), eq-eqb _ _ q) (c .shares-ok .ensures ∙ (λ j. sharesOk (a .k) (s .ensures .0 j) (a .points) (s .ensures .2 j)))
 
 pub plan-and-shares-spec : {M : Type 1} → statement M
 plan-and-shares-spec =

@@ -43,8 +43,10 @@ loop-less c = search needs
 
 loop-again : tie.Need-loop-again Inv-loop μ-loop
 loop-again c =
-    let e : c .ca-at .result ≡ two (now (c .before .before .before .before .before .before .args .m)) (c .before .before .before .before .loop .station) = omega arith in
-    (c .before .before .before .before .loop .inv .0 ∙ plan-on _ _ _ (omega arith) _ _ (sym (c .before .before .station-ok .ensures) ∙ not-false _ (c .before .if1 .left)) ∙ rw e refl, omega arith)
+    let at-loop = c .before .before .before .before in
+    let start = at-loop .before .before in
+    let e : c .ca-at .result ≡ two (now (start .args .m)) (at-loop .loop .station) = omega arith in
+    (at-loop .loop .inv .0 ∙ plan-on _ _ _ (omega arith) _ _ (sym (c .before .before .station-ok .ensures) ∙ not-false _ (c .before .if1 .left)) ∙ rw e refl, omega arith)
 
 returns-2 : tie.Need-returns-2 Inv-loop μ-loop
 returns-2 c = sym (c .before .loop .inv .0 ∙ plan-end _ _ _ _ _ (omega arith))

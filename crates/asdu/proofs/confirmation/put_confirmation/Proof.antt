@@ -37,8 +37,10 @@ same-length c = search needs
 
 returns : tie.Need-returns
 returns c =
-    let known = c .before .before .before .before .before .before .shared-slice-known in
-    let a = c .before .before .before .before .before .before .before .before .args in
+    let at-slice-known = c .before .before .before .before .before .before in
+    let start = at-slice-known .before .before in
+    let known = at-slice-known .shared-slice-known in
+    let a = start .args in
     let n : 6 + (3 + a .command .element) - 6 ≡ 3 + a .command .element = omega arith in
     let o : Octets (now (a .asdu)) = λ i. omega (arith, known .given i) in
     rw (confirmation-octets (a .command) (now (a .asdu)) (a .cause) (a .negative) o (omega arith)) (rw n at (c .before .before .put-reply .ensures))

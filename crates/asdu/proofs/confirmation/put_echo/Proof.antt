@@ -29,8 +29,9 @@ same-length c = search needs
 
 returns : tie.Need-returns
 returns c =
-    let known = c .before .before .before .before .before .shared-slice-known in
-    let start = c .before .before .before .before .before .before .before in
+    let at-slice-known = c .before .before .before .before .before in
+    let start = at-slice-known .before .before in
+    let known = at-slice-known .shared-slice-known in
     let a = start .args in
     let n = lent-rest (now (a .asdu)) 6 in
     let o : Octets (now (a .asdu)) = λ i. omega (arith, known .given i) in

@@ -21,7 +21,8 @@ same-length c = search needs
 
 returns : tie.Need-returns
 returns c =
-    let h = c .before .before .before .before .reply-header .ensures in
+    let at-reply-header = c .before .before .before .before in
+    let h = at-reply-header .reply-header .ensures in
     let p = c .before .before .put-asdu .ensures in
     (cc, cc)
 

@@ -24,7 +24,8 @@ same-length c = search needs
 
 returns : tie.Need-returns
 returns c =
-    let a = c .before .before .before .before .before .before .before .before .before .before .args in
+    let start = c .before .before .before .before .before .before .before .before .before .before in
+    let a = start .args in
     let k = length-header (a .h) in
     let n = length-after (a .h) (now (a .objects)) in
     let e : c .before .before .copy-in .last .1 .0 ≡ over (over (now (a .out)) 0 (header (a .h))) 6 (now (a .objects)) = cc in

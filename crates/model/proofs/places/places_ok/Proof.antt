@@ -48,8 +48,10 @@ loop-less c = search needs
 
 loop-again : tie.Need-loop-again Inv-loop μ-loop
 loop-again c =
-    let l = c .before .before .before .before .loop in
-    let e : c .three-at .result ≡ three (now (c .before .before .before .before .before .before .args .m)) (l .i + 3) = omega arith in
+    let at-loop = c .before .before .before .before in
+    let start = at-loop .before .before in
+    let l = at-loop .loop in
+    let e : c .three-at .result ≡ three (now (start .args .m)) (l .i + 3) = omega arith in
     (l .inv .0 ∙ places-on _ _ _ (omega arith) _ _ (sym (c .before .before .place-ok .ensures) ∙ not-false _ (c .before .if1 .left)) ∙ rw e refl, omega arith)
 
 returns-2 : tie.Need-returns-2 Inv-loop μ-loop

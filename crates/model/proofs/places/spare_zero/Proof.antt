@@ -31,8 +31,10 @@ eight-at-requires-4 c κs = search needs
 
 returns : tie.Need-returns
 returns c =
-    let a = c .before .before .before .before .before .args in
-    let e = c .before .before .before .eight-at .ensures in
+    let at-eight-at = c .before .before .before in
+    let start = at-eight-at .before .before in
+    let a = start .args in
+    let e = at-eight-at .eight-at .ensures in
     let f = c .before .before .eight-at2 .ensures in
     let g = c .before .eight-at3 .ensures in
     let h = c .eight-at4 .ensures in

@@ -37,19 +37,28 @@ size-report-requires c κs =
 
 -- what the writer may rely on
 go : (c : tie.After-size-report)
-    → let a = c .before .before .before .before .before .before .before .args in
+    → let start = c .before .before .before .before .before .before .before in
+    let a = start .args in
     let z = c .size-report in
     Ready (a .s) (now (a .m)) (a .reach) (a .terms) (now (a .types)) (z .last .1 .1 .1 .1 .1 .0) (z .last .1 .1 .1 .1 .1 .1 .0) (z .last .1 .1 .1 .1 .1 .1 .1 .0)
 go c =
-    let start = c .before .before .before .before .before .before .before in
+    let at-slice-known = c .before .before .before .before .before in
+    let start = at-slice-known .before .before in
     let a = start .args in
     let z = c .size-report in
-    let o : Octets (now (a .m)) = λ i. omega (arith, c .before .before .before .before .before .shared-slice-known .given i) in
+    let o : Octets (now (a .m)) = λ i. omega (arith, at-slice-known .shared-slice-known .given i) in
     let few = start .pre .2 .1 in
     let hl = length-replicate {A = ℕ} 64 0 in
     let xl = length-replicate {A = ℕ} 4096 0 in
     ready (a .s) (now (a .m)) (a .reach) (a .terms) (now (a .types)) (replicate 64 0) (replicate 4096 0) (z .last .1 .1 .1 .1 .1 .0) (z .last .1 .1 .1 .1 .1 .1 .0) (z .last .1 .1 .1 .1 .1 .1 .1 .0)
     o (start .pre .2) (omega arith) (omega arith) (start .pre .4 .0 .0) (start .pre .3 .1) (z .ensures .0)
+
+-- its size is that of the data
+size-in : (c : tie.After-size-report) →
+    let start = c .before .before .before .before .before .before .before in
+    let a = start .args in
+    c .size-report .result ≡ length (wire (dataOf (a .terms) (now (a .types)) (a .s) (now (a .m)) (a .reach)))
+size-in c = c .size-report .ensures .1 ∙ go c .size
 
 add-if1 : tie.Need-add-if1
 add-if1 c = search needs
@@ -60,12 +69,12 @@ add-if1-2 c = search needs
 returns : tie.Need-returns
 returns c =
     let sized = c .before .before .before .before in
-    let a = sized .before .before .before .before .before .before .before .args in
-    let z = sized .size-report in
-    let t = go sized in
+    let start = sized .before .before .before .before .before .before .before in
+    let a = start .args in
+    let n = sized .size-report .result in
     let xs = wire (dataOf (a .terms) (now (a .types)) (a .s) (now (a .m)) (a .reach)) in
-    let k : z .result ≡ length xs = z .ensures .1 ∙ t .size in
-    (short-wrote (length (now (a .out))) (a .before) (a .after) (z .result) xs k (omega arith), short-written (now (a .out)) (a .before) (a .after) (z .result) xs k (omega arith))
+    let k = size-in sized in
+    (short-wrote (length (now (a .out))) (a .before) (a .after) n xs k (omega arith), short-written (now (a .out)) (a .before) (a .after) n xs k (omega arith))
 
 sub-put-report : tie.Need-sub-put-report
 sub-put-report c = search needs
@@ -87,7 +96,8 @@ slice-aggregate-put-report-3 c = search needs
 
 put-report-requires : tie.Need-put-report-requires
 put-report-requires c κs =
-    let sized = c .before .before .before .before .before .before .before .before in
+    let at-if1 = c .before .before .before .before in
+    let sized = at-if1 .before .before .before .before in
     let start = sized .before .before .before .before .before .before .before in
     let a = start .args in
     let z = sized .size-report in
@@ -98,9 +108,9 @@ put-report-requires c κs =
     let x = ap length (z .ensures .0 .1) ∙ length-nexts slot js (replicate 64 0) (replicate 4096 0) ∙ length-replicate {A = ℕ} 4096 0 in
     let n = ap length (z .ensures .0 .2) ∙ length-counts slot js in
     let few = start .pre .2 .1 in
-    let k = z .ensures .1 ∙ t .size in
+    let k = size-in sized in
     let e = ap length (t .octets) in
-    let room = c .before .before .before .before .if1 .left in
+    let room = at-if1 .if1 .left in
     (start .pre .4, (start .pre .2, omega (arith, h), omega (arith, x), omega (arith, n), t .chains), omega (arith, k, e, room))
 
 same-length : tie.Need-same-length
@@ -108,14 +118,16 @@ same-length c = search needs
 
 returns-2 : tie.Need-returns-2
 returns-2 c =
-    let sized = c .before .before .before .before .before .before .before .before .before .before .before in
-    let a = sized .before .before .before .before .before .before .before .args in
+    let at-if1 = c .before .before .before .before .before .before .before in
+    let sized = at-if1 .before .before .before .before in
+    let start = sized .before .before .before .before .before .before .before in
+    let a = start .args in
     let z = sized .size-report in
     let t = go sized in
     let xs = wire (dataOf (a .terms) (now (a .types)) (a .s) (now (a .m)) (a .reach)) in
-    let k : z .result ≡ length xs = z .ensures .1 ∙ t .size in
+    let k = size-in sized in
     let e = ap length (t .octets) in
-    let room = c .before .before .before .before .before .before .before .if1 .left in
+    let room = at-if1 .if1 .left in
     let X = reportOn (a .terms) (now (a .types)) (now (a .m)) (a .reach) (z .last .1 .1 .1 .1 .1 .0) (z .last .1 .1 .1 .1 .1 .1 .0) (z .last .1 .1 .1 .1 .1 .1 .1 .0) in (
       full-wrote (length (now (a .out))) (a .before) (a .after) (z .result) xs k (omega (arith, room)),
       rw (c .before .before .put-report .ensures .1)

@@ -26,10 +26,11 @@ slice-aggregate-link c = search needs
 
 link-requires : tie.Need-link-requires
 link-requires c κs =
-    let start = c .before .before .before .before .before .before .before .before .before .before .before .before in
+    let at-arrange = c .before .before .before .before .before in
+    let start = at-arrange .before .before .before .before .before .before .before in
     let a = start .args in
     let r = a .reach in
-    let o = c .before .before .before .before .before .arrange in
+    let o = at-arrange .arrange in
     let z = length-replicate {A = ℕ} 4096 0 in
     let few = start .pre .0 .1 in
     let l = order-long (r .every) (now (a .m)) (r .base) (r .n) (replicate 4096 0) (o .last .0) (o .ensures) (omega arith) in
@@ -37,10 +38,12 @@ link-requires c κs =
 
 report-octets-requires : tie.Need-report-octets-requires
 report-octets-requires c κs =
-    let start = c .before .before .before .before .before .before .before .before .before .before .before .before .before .before .before .before .before .before .before .before in
+    let at-link = c .before .before .before .before .before .before .before in
+    let at-arrange = at-link .before .before .before .before .before .before in
+    let start = at-arrange .before .before .before .before .before .before .before in
     let a = start .args in
-    let k = c .before .before .before .before .before .before .before .link in
-    let o = c .before .before .before .before .before .before .before .before .before .before .before .before .before .arrange in
+    let k = at-link .link in
+    let o = at-arrange .arrange in
     let n = ap length (k .ensures .2) ∙ length-counts (slotOn (a .s) (now (a .m)) (a .reach .base)) (take (a .reach .n) (o .last .0)) in
     (start .pre .1, start .pre .2, omega arith)
 
@@ -55,10 +58,13 @@ same-length-3 c = search needs
 
 returns : tie.Need-returns
 returns c =
-    let a = c .before .before .before .before .before .before .before .before .before .before .before .before .before .before .before .before .before .before .before .before .before .args in
+    let at-link = c .before .before .before .before .before .before .before .before in
+    let at-arrange = at-link .before .before .before .before .before .before in
+    let start = at-arrange .before .before .before .before .before .before .before in
+    let a = start .args in
     let r = a .reach in
-    let k = c .before .before .before .before .before .before .before .before .link in
-    let o = c .before .before .before .before .before .before .before .before .before .before .before .before .before .before .arrange in
+    let k = at-link .link in
+    let o = at-arrange .arrange in
     let e = order-taken (r .every) (now (a .m)) (r .base) (r .n) (replicate 4096 0) (o .last .0) (o .ensures) in
     let linked = subst (λ (js : List ℕ). LinkedBy (slotOn (a .s) (now (a .m)) (r .base)) js (now (a .heads)) (now (a .next)) (k .last .1 .1 .1 .1 .0) (k .last .1 .1 .1 .1 .1 .0) (k .last .1 .1 .1 .1 .1 .1 .0)) e (k .ensures) in
     (linked, c .report-octets .ensures .0, c .report-octets .ensures .1)

@@ -37,7 +37,8 @@ seat-reach-requires c κs = search needs
 returns-2 : tie.Need-returns-2
 unfolding reachOf
 returns-2 c =
-    let a = c .before .before .before .before .before .args in
+    let start = c .before .before .before .before .before in
+    let a = start .args in
     let t = ne-eqb (a .ca) globalAddress (c .before .before .before .if1 .left) in
     c .seat-reach .ensures ∙ ap seatReach (c .before .seat-at .ensures ∙ ap (seatAt (now (a .m))) (c .before .before .wide16 .ensures .0))
     ∙ ap (λ (b : Bool). pick {A = Reach} b (record { base = 64; n = two (now (a .m)) 8; every = true }) (seatReach (seatAt (now (a .m)) (a .ca)))) (sym t)

@@ -28,7 +28,8 @@ data-header-requires c κs = search needs
 
 put-header-requires : tie.Need-put-header-requires
 put-header-requires c κs =
-    let a = c .before .before .before .before .before .before .args in
+    let start = c .before .before .before .before .before .before in
+    let a = start .args in
     let d = c .before .data-header in
     let e : d .result .cause ≡ a .cause = ap (λ (x : Header). x .cause) (d .ensures) in
     let l = length-header (d .result) in
@@ -37,23 +38,31 @@ put-header-requires c κs =
 
 put-object-requires : tie.Need-put-object-requires
 put-object-requires c κs =
-    let a = c .before .before .before .before .before .before .before .before .before .before .args in
-    let p = c .before .before .before .put-header .ensures .0 in
-    let l = length-header (c .before .before .before .before .before .data-header .result) in
-    let e = c .before .before .before .before .before .before .point-octets .ensures in
+    let at-put-header = c .before .before .before in
+    let at-data-header = at-put-header .before .before in
+    let at-point-octets = at-data-header .before in
+    let start = at-point-octets .before .before .before .before in
+    let a = start .args in
+    let p = at-put-header .put-header .ensures .0 in
+    let l = length-header (at-data-header .data-header .result) in
+    let e = at-point-octets .point-octets .ensures in
     let s = single-long (now (a .m)) (a .at) (a .cause) (a .ca) in
     (omega arith, e .1, omega (arith, e .0))
 
 add-result : tie.Need-add-result
 add-result c =
-    let e = c .before .before .before .before .before .before .before .before .before .point-octets .ensures .1 in
+    let at-point-octets = c .before .before .before .before .before .before .before .before .before in
+    let e = at-point-octets .point-octets .ensures .1 in
     omega arith
 
 add-result-2 : tie.Need-add-result-2
 add-result-2 c =
-    let p = c .before .before .before .before .before .before .put-header .ensures .0 in
-    let l = length-header (c .before .before .before .before .before .before .before .before .data-header .result) in
-    let e = c .before .before .before .before .before .before .before .before .before .point-octets .ensures .1 in
+    let at-put-header = c .before .before .before .before .before .before in
+    let at-data-header = at-put-header .before .before in
+    let at-point-octets = at-data-header .before in
+    let p = at-put-header .put-header .ensures .0 in
+    let l = length-header (at-data-header .data-header .result) in
+    let e = at-point-octets .point-octets .ensures .1 in
     omega arith
 
 same-length : tie.Need-same-length
@@ -61,16 +70,20 @@ same-length c = search needs
 
 returns : tie.Need-returns
 returns c =
-    let b = c .before .before .before .before .before .before .before .before .before .before .before .before .before in
-    let a = b .args in
-    let g = c .before .before .before .before .before .before .put-header in
-    let d = c .before .before .before .before .before .before .before .before .data-header in
-    let p = c .before .before .before .before .before .before .before .before .before .point-octets in
+    let at-put-header = c .before .before .before .before .before .before in
+    let at-data-header = at-put-header .before .before in
+    let at-point-octets = at-data-header .before in
+    let at-slice-known = at-point-octets .before .before in
+    let start = at-slice-known .before .before in
+    let a = start .args in
+    let g = at-put-header .put-header in
+    let d = at-data-header .data-header in
+    let p = at-point-octets .point-octets in
     let l = length-header (d .result) in
     let s = single-long (now (a .m)) (a .at) (a .cause) (a .ca) in
     let eo : g .result ≡ length (header (dataHeader (getD (now (a .m)) (a .at) 0) 1 (a .cause) (a .ca))) = g .ensures .0 ∙ ap (λ (x : Header). length (header x)) (d .ensures) in
     let w : g .last .0 ≡ over (now (a .out)) 0 (header (dataHeader (getD (now (a .m)) (a .at) 0) 1 (a .cause) (a .ca))) = g .ensures .1 ∙ ap (λ (x : Header). over (now (a .out)) 0 (header x)) (d .ensures) in
-    let o : Octets (now (a .m)) = λ i. omega (arith, c .before .before .before .before .before .before .before .before .before .before .before .shared-slice-known .given i) in (
+    let o : Octets (now (a .m)) = λ i. omega (arith, at-slice-known .shared-slice-known .given i) in (
       omega (arith, g .ensures .0, p .ensures .0),
       c .before .before .put-object .ensures ∙ ap (λ (x : List ℕ). over x (g .result) (placeObject (p .result) (now (a .m)) (a .at))) w
           ∙ single-over (now (a .m)) (now (a .out)) (a .at) (a .cause) (a .ca) (p .result) (g .result) o (omega arith) (p .ensures .0) eo (omega arith),

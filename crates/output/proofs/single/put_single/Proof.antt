@@ -29,7 +29,8 @@ same-length c = search needs
 
 returns : tie.Need-returns
 returns c =
-    let a = c .before .before .before .before .before .before .args in
+    let start = c .before .before .before .before .before .before in
+    let a = start .args in
     let p = c .before .before .put-front in
     (omega (arith, p .ensures .0), rw (p .ensures .1) (lent-over (now (a .out)) (asduOctets (single (a .cause) (a .ca) (pointAt (now (a .m)) (a .at)))) (a .o) (omega arith)))
 
