@@ -1,6 +1,8 @@
 //! The proved library beside the original, on the same inputs, in one process, runs of both sides in turn.
-//! It prints Markdown: the lowest and the median time of each side in microseconds, and how many times as long the original takes.
+//! It prints Markdown: the lowest and the median time of each side in microseconds, and how many times as long the original takes; under
+//! bench/count thousands of instructions in their place.
 
+mod clock;
 mod ours;
 mod theirs;
 mod timing;
@@ -50,7 +52,8 @@ fn line(name: &str, ours: &Times, theirs: Option<&Times>) {
 
 fn heading(title: &str) {
     println!("\n### {title}\n");
-    println!("| Work | ours, lowest µs | median | original, lowest µs | median | original ÷ ours, lowest | median |");
+    let unit = clock::unit();
+    println!("| Work | ours, lowest {unit} | median | original, lowest {unit} | median | original ÷ ours, lowest | median |");
     println!("|---|--:|--:|--:|--:|--:|--:|");
 }
 
@@ -164,7 +167,7 @@ fn registrations(title: &str, stations: usize, each: usize) {
 
 /// How the times grow with points and stations: ours alone.
 fn growth() {
-    println!("\n### How cost grows (ours, lowest µs, K 4,096)\n");
+    println!("\n### How cost grows (ours, lowest {}, K 4,096)\n", clock::unit());
     println!("| Points | Stations | test | interrogation | counters, reset | 65,535 | read of one | process command | batch of all, ascending | batch, random | register one | remove one |");
     println!("|--:|--:|--:|--:|--:|--:|--:|--:|--:|--:|--:|--:|");
     for total in [64, 512, 4096] {
@@ -174,7 +177,7 @@ fn growth() {
     }
 }
 
-fn lowest(work: &mut dyn FnMut() -> Duration) -> f64 {
+fn lowest(work: &mut dyn FnMut() -> f64) -> f64 {
     interleaved(&mut [Box::new(work)], BUDGET / 4, MOST_RUNS)[0].lowest()
 }
 

@@ -2,7 +2,9 @@
 
 use std::time::{Duration, Instant};
 
-/// The times of one side, in microseconds.
+use crate::clock;
+
+/// The times of one side, in the clock's unit.
 pub struct Times(Vec<f64>);
 
 impl Times {
@@ -18,27 +20,29 @@ impl Times {
 }
 
 /// One run of one side: makes what it needs, then gives the time of the work alone.
-pub type Run<'a> = Box<dyn FnMut() -> Duration + 'a>;
+pub type Run<'a> = Box<dyn FnMut() -> f64 + 'a>;
 
 /// The time of a piece of work; what it gives back is kept from being optimised away.
-pub fn timed<T>(work: impl FnOnce() -> T) -> Duration {
-    let start = Instant::now();
+pub fn timed<T>(work: impl FnOnce() -> T) -> f64 {
+    let start = clock::now();
     let done = work();
-    let time = start.elapsed();
+    let time = clock::now() - start;
     std::hint::black_box(done);
     time
 }
 
-/// Runs all sides in turn, again and again, until `budget` is spent (at least five times, at most `most`).
+/// Runs all sides in turn, again and again, until `budget` is spent (at least five times, at most `most`). Where instructions are counted,
+/// which no other program disturbs, twice is enough.
 pub fn interleaved(sides: &mut [Run], budget: Duration, most: usize) -> Vec<Times> {
     let mut times: Vec<Times> = sides.iter().map(|_| Times(Vec::new())).collect();
     let start = Instant::now();
+    let (least, budget) = if clock::counts() { (2, Duration::ZERO) } else { (5, budget) };
     for round in 0..most {
-        if 5 <= round && budget < start.elapsed() {
+        if least <= round && budget < start.elapsed() {
             break;
         }
         for (side, times) in sides.iter_mut().zip(&mut times) {
-            times.0.push(side().as_secs_f64() * 1e6);
+            times.0.push(side());
         }
     }
     times
