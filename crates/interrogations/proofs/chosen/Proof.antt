@@ -3,7 +3,6 @@ use mathlib.Core.Path.{sym, ap, _∙_}
 use Prim.Native.Nat.{ℕ}
 use Rattle.report.specs.declared.Selection.the-variants.{CounterGroup}
 use Rattle.answers.specs.declared.Choice.the-variants.{Selected}
-use Rattle.answers.specs.System.{chosen}
 use Rattle.interrogations.proofs.Laws.{chooses-all, chooses-none-below, chooses-none-above, chooses-group}
 use borrow.Author.Needs.{needs}
 use native.Mathlib.Omega.{arith}

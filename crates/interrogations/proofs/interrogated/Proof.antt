@@ -1,6 +1,5 @@
 -- Each qualifier leads to its choice. Assumes nothing.
 use mathlib.Core.Path.{sym}
-use Rattle.answers.specs.System.{interrogated}
 use Rattle.interrogations.proofs.Laws.{asks-all, asks-none-below, asks-none-above, asks-group}
 use borrow.Author.Needs.{needs}
 use Rattle.interrogations.proofs.interrogated.Statement.{statement}
