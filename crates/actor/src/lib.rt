@@ -1,5 +1,7 @@
 // Registration and removal of one point, removal of all, and the share of a station. From `actor.rs`: `register_one_point`, `Unregister`, `UnregisterAll`.
 // Every entry tests everything itself: any octets may be lent as the table, and any numbers be given.
+#![tactic(auto)]
+
 ghost use Rattle.std.specs.Prelude.{◌≡◌, true};
 ghost use Rattle.table.specs.Memory.{well_formed};
 ghost use Rattle.lookup.specs.Seats.{seat_at};

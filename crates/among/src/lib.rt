@@ -1,11 +1,13 @@
 // Whether an address stands among the first points of a slice of point records.
+#![tactic(auto)]
+
 ghost use Rattle.std.specs.Prelude.{◌≡◌};
 ghost use Rattle.among.specs.Fold.{same_address, stepped, folded};
 
 use model::Request;
 
 // The address that is looked for, among how many points more, whether it was found, and whether there is no more to look at.
-#[derive(Drop)]
+#[derive(Clone, Copy)]
 pub struct Search {
     pub ca: u16,
     pub ioa: u32,

@@ -1,4 +1,6 @@
 // What every command says: definitions and their laws, what it gives back, and what a qualifier chooses. The code that says it stands above.
+#![tactic(auto)]
+
 ghost use Rattle.std.specs.Prelude.{◌≡◌};
 ghost use Rattle.answers.specs.Said.{nothing, given};
 
@@ -6,7 +8,7 @@ use limits::outcome::Outcome;
 use report::Selection;
 
 // What a command gives back: its outcome, and the octets written to the answer and to the spontaneous memory.
-#[derive(Drop)]
+#[derive(Clone, Copy)]
 pub struct Answered {
     pub outcome: Outcome,
     pub octets: usize,
@@ -14,7 +16,7 @@ pub struct Answered {
 }
 
 // What a qualifier chooses: the points of a selection, or nothing that there is, which is denied.
-#[derive(Drop)]
+#[derive(Clone, Copy)]
 pub enum Choice {
     Selected(Selection),
     Denied,

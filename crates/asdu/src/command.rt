@@ -7,14 +7,14 @@ use limits::outcome::Outcome;
 use limits::size::{ADDRESS_OCTETS, CONTROL_OCTETS, Class, HEADER_OCTETS};
 
 // Which of the two entries asks.
-#[derive(Drop)]
+#[derive(Clone, Copy)]
 pub enum Entry {
     SystemCommands,
     ProcessCommands,
 }
 
 // The parts of a command; `element` is the octets of one element of its type.
-#[derive(Drop)]
+#[derive(Clone, Copy)]
 pub struct Command {
     pub kind: u8,
     pub count: u8,
@@ -26,7 +26,7 @@ pub struct Command {
 }
 
 // What an entry reads: the first test that fails, in document 01's order, or the command.
-#[derive(Drop)]
+#[derive(Clone, Copy)]
 pub enum Reading {
     LengthOutOfRange,
     TypeNotServed,
@@ -49,7 +49,7 @@ impl Reading {
 }
 
 // A command's first object: its address and where its element lies; or none.
-#[derive(Drop)]
+#[derive(Clone, Copy)]
 pub enum FirstObject {
     Object(usize, usize),
     None,

@@ -11,7 +11,7 @@ use limits::size::HEADER_OCTETS;
 pub const GLOBAL_COMMON_ADDRESS: u16 = 65535;
 
 // The fields of a header; the sequence flag is none of them, being clear in all that we write.
-#[derive(Drop)]
+#[derive(Clone, Copy)]
 pub struct Header {
     pub kind: u8,
     pub count: u8,

@@ -1,4 +1,6 @@
 // The registration of a batch of points: every point's own tests, then the share rule, then all are stored, or none. From `actor.rs`.
+#![tactic(auto)]
+
 ghost use Rattle.std.specs.Prelude.{◌≡◌, ◌+◌, ◌*◌, ◌≤◌, length};
 ghost use Rattle.layout.specs.Layout.{station_size, most_places, most_stations};
 ghost use Rattle.table.specs.Memory.{table_of};

@@ -1,4 +1,6 @@
 // The flat list of records that a batch comes as: the size of one, and whether an address stands earlier in it.
+#![tactic(auto)]
+
 ghost use Rattle.std.specs.Prelude.{◌≡◌, ◌+◌, ◌*◌, ◌≤◌, ◌<◌, length};
 ghost use Rattle.batch_records.specs.Records.{record_octets, has_address, stands_before};
 

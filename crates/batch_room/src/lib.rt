@@ -1,4 +1,6 @@
 // The share rule over a batch, as if its points were registered one by one: numbers 19 and 20. The table is only read.
+#![tactic(auto)]
+
 ghost use Rattle.std.specs.Prelude.{◌≡◌, ◌+◌, ◌-◌, ◌≤◌, ◌<◌, length, replicate};
 ghost use Rattle.layout.specs.Layout.{station_size, most_stations, stations_in, size_in};
 ghost use Rattle.batch_records.specs.Records.{requests_in};
@@ -13,7 +15,7 @@ use lookup::Seat;
 use registry::Reply;
 
 // What a request is answered for room, and what is free and unmet after it.
-#[derive(Drop)]
+#[derive(Clone, Copy)]
 pub struct Standing {
     pub outcome: Outcome,
     pub free: usize,

@@ -1,4 +1,6 @@
 // The tests 11 to 17 of a batch's points, in list order. The table is only read.
+#![tactic(auto)]
+
 ghost use Rattle.std.specs.Prelude.{◌≡◌, true, false, [], ◌+◌, ◌*◌, ◌/◌, ◌≤◌, ◌<◌, length};
 ghost use Rattle.limits.specs.Test.{pick};
 ghost use Rattle.merging.specs.Merge.{Differ};

@@ -1,18 +1,20 @@
 // The last master clock as a record that is lent and changed in place, and the entry for system commands that takes it so.
+#![tactic(auto)]
+
 ghost use Rattle.std.specs.Prelude.{◌≡◌, length};
 ghost use Rattle.clock.specs.Clock.{clock_of, fresh_clock, flag_of, with_flag, Answers};
 
 use answers::Answered;
 
 // The last master clock: seven octets of time, and whether one was received.
-#[derive(Drop)]
+#[derive(Clone, Copy)]
 pub struct Clock {
     pub octets: [u8; 7],
     pub known: bool,
 }
 
 // What a command gives back, and the clock after it.
-#[derive(Drop)]
+#[derive(Clone, Copy)]
 pub struct Told {
     pub answered: Answered,
     pub clock: Clock,

@@ -1,4 +1,6 @@
 // Process commands: a caller's proposal, its updates, the confirmation. From `commands.rs`; the async handler has become the proposal.
+#![tactic(auto)]
+
 ghost use Rattle.std.specs.Prelude.{◌≡◌, [], true, ◌+◌, ◌*◌, ◌/◌, ◌≤◌, ◌<◌, length};
 ghost use Rattle.limits.specs.Test.{pick};
 ghost use Rattle.limits.specs.Size.{class_of, control_octets, header_octets};

@@ -1,5 +1,7 @@
 // Answers that are written whole if they fit and not at all if they do not: a negative confirmation alone, the echo of all objects, and data
 // between confirmation and termination. From `send_command_confirmation` of `commands.rs` and `handle_interrogation` of `actor.rs`.
+#![tactic(auto)]
+
 ghost use Rattle.std.specs.Prelude.{◌≡◌, true, [], ◌∷◌, ◌+◌, ◌≤◌, ◌<◌, length};
 ghost use Rattle.octets.specs.Over.{over};
 ghost use Rattle.table.specs.Memory.{well_formed, table_of};

@@ -1,4 +1,6 @@
 // Start of a connection: the end of initialisation. From `send_end_of_initialization` of `actor.rs`, and `end_of_initialization_asdu` and `station_common_address` of `output.rs`.
+#![tactic(auto)]
+
 ghost use Rattle.std.specs.Prelude.{◌≡◌, [], ◌+◌, ◌*◌, ◌≤◌, ◌<◌, length};
 ghost use Rattle.asdu.specs.Header.{asdu_octets};
 ghost use Rattle.asdu.specs.Puts.{Puts};

@@ -1,4 +1,6 @@
 // Calls of the two forms by hand, with plain values in their signatures: arrays of point records, and a clock that comes and goes.
+#![tactic(auto)]
+
 ghost use Rattle.std.specs.Prelude.{map};
 ghost use Rattle.replies.specs.Replies.{Replies};
 ghost use Rattle.registry.specs.Registry.{registering_all};

@@ -1,4 +1,6 @@
 // A point put into its station's places. Where it goes is found before, by `lookup::find`.
+#![tactic(auto)]
+
 ghost use Rattle.std.specs.Prelude.{◌≡◌, ◌+◌, ◌*◌, ◌≤◌, ◌<◌, length};
 ghost use Rattle.layout.specs.Layout.{place_size};
 ghost use Rattle.model.specs.Place.{place_of};

@@ -1,5 +1,7 @@
 // Interrogation and counter interrogation: which points a command asks for, the answer to it, and the reset of counters. From `handle_interrogation`
 // of `actor.rs`, `handle_counter_interrogation` of `system_command_handler.rs`, `interrogation_data_cot` and `counter_interrogation_data_cot` of `output.rs`.
+#![tactic(auto)]
+
 ghost use Rattle.std.specs.Prelude.{◌≡◌, true, ◌<◌, length};
 ghost use Rattle.limits.specs.Test.{pick};
 ghost use Rattle.limits.specs.Outcome.{is_done};

@@ -1,5 +1,7 @@
 // The C interface: every entry with plain numbers, octets and lent memory. DESIGN.md, section 5. No function requires anything of its arguments.
 // From C or Rust each slice is two arguments, a pointer and a length.
+#![tactic(auto)]
+
 ghost use Rattle.std.specs.Prelude.{◌≡◌, []};
 ghost use Rattle.registry.specs.Registry.{share_on};
 ghost use Rattle.answers.specs.Said.{lent};
@@ -18,7 +20,7 @@ use registry::StationShare;
 // What every call gives back: document 01's number; the place of the faulty point of a refused batch, or the number of points removed by
 // `khuvelter_unregister_all`, else 0; the octets written to the answer and to the spontaneous memory, 0 unless the number is 0.
 #[repr(C)]
-#[derive(Drop)]
+#[derive(Clone, Copy)]
 pub struct Reply {
     pub number: u32,
     pub place: u32,
@@ -28,7 +30,7 @@ pub struct Reply {
 
 // A station's share: 3, 12 or 0; its reservation, ceiling and held; what is free and unmet in the table.
 #[repr(C)]
-#[derive(Drop)]
+#[derive(Clone, Copy)]
 pub struct Share {
     pub number: u32,
     pub reservation: u32,

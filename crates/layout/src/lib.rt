@@ -1,5 +1,7 @@
 // The layout of a table's memory: a head, K places, the stations; the size of each, and where their numbers lie. Nothing else in the repository
 // knows these numbers.
+#![tactic(auto)]
+
 ghost use Rattle.std.specs.Prelude.{◌≡◌, ◌+◌, ◌*◌, ◌≤◌, ◌<◌, length};
 ghost use Rattle.layout.specs.Layout.{head_size, station_size, capacity_in, stations_in, points_in, stations_from, size_in, ca_at, reservation_at, ceiling_at, held_at};
 

@@ -3,7 +3,7 @@ ghost use Rattle.std.specs.Prelude.{◌≡◌};
 ghost use Rattle.limits.specs.Share.{taken_in, let_go, unmet_of, admission_of};
 
 // How many points a station holds, how many are kept for it, and how many it may hold.
-#[derive(Drop)]
+#[derive(Clone, Copy)]
 pub struct Share {
     pub held: usize,
     pub reservation: usize,
@@ -11,7 +11,7 @@ pub struct Share {
 }
 
 // What the share rule answers to one more point.
-#[derive(Drop)]
+#[derive(Clone, Copy)]
 pub enum Admission {
     Admitted,
     CeilingReached,

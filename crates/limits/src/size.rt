@@ -53,7 +53,7 @@ const KINDS: [u8; KINDS_END] = *b"\x00\x11\x14\x11\x14\x12\x15\x15\x00\x13\
       \x21\x21\x20\x27\x22\x21\x00\x29";
 
 // What a type is: a point's, a system command's, a process command's, the end of initialisation, or none of these.
-#[derive(Drop)]
+#[derive(Clone, Copy)]
 pub enum Class {
     Point,
     System,

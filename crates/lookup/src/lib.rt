@@ -1,4 +1,6 @@
 // Where a station's places lie in a table's memory, and where one of its points stands or would go.
+#![tactic(auto)]
+
 ghost use Rattle.std.specs.Prelude.{◌≡◌, ◌+◌, ◌*◌, ◌≤◌, ◌<◌, length};
 ghost use Rattle.layout.specs.Layout.{head_size, place_size, station_size, most_stations, stations_in, size_in};
 ghost use Rattle.lookup.specs.Seats.{seat_in, seat_at};
@@ -9,7 +11,7 @@ use layout::{HEAD_SIZE, IOA_OFFSET, PLACE_SIZE, STATION_SIZE};
 // ---- a station
 
 // A station's index in the plan, its first place as an offset in octets, and how many points it holds; or no such station.
-#[derive(Drop)]
+#[derive(Clone, Copy)]
 pub enum Seat {
     Here(usize, usize, usize),
     NotPlanned,
@@ -50,14 +52,14 @@ pub fn seat_at(m: &[u8], ca: usize) -> Seat
 // ---- a point of a station
 
 // The place of the point with an IOA, as an offset in octets; or, where there is none, the place where it would go.
-#[derive(Drop)]
+#[derive(Clone, Copy)]
 pub enum Spot {
     Held(usize),
     Missing(usize),
 }
 
 // The places from `low` up to `high`, counted from a station's first.
-#[derive(Drop)]
+#[derive(Clone, Copy)]
 struct Bounds {
     low: usize,
     high: usize,

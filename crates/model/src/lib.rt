@@ -1,4 +1,6 @@
 // A point, the 48 octets of its place, the request to register one, and their tests. From `model.rs` and `point_value.rs`.
+#![tactic(auto)]
+
 mod place;
 mod places;
 mod registration;
@@ -21,7 +23,7 @@ pub const GROUPS: u8 = 16;
 pub const COUNTER_GROUPS: u8 = 4;
 
 // A registered point: its type, address, interrogation group and counter group (0: none), and its value's octets, zero past the element.
-#[derive(Drop)]
+#[derive(Clone, Copy)]
 pub struct Point {
     pub kind: u8,
     pub ioa: u32,
@@ -31,14 +33,14 @@ pub struct Point {
 }
 
 // A group, or none: the Rust's `Option<u8>`.
-#[derive(Drop)]
+#[derive(Clone, Copy)]
 pub enum Group {
     None,
     Number(u8),
 }
 
 // A point as a caller gives it for registration: any numbers that fit the fields.
-#[derive(Drop)]
+#[derive(Clone, Copy)]
 pub struct Request {
     pub ca: u16,
     pub ioa: u32,

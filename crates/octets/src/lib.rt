@@ -1,4 +1,6 @@
 // Lent memory as octets: moving, copying, numbers low octet first, the test for zero. The lowest layer over memory; it sees no point and no table.
+#![tactic(auto)]
+
 ghost use Rattle.std.specs.Prelude.{◌≡◌, ◌+◌, ◌-◌, ◌≤◌, ◌<◌, length, take, drop, replicate};
 ghost use Rattle.octets.specs.Over.{over, shifted, lowered};
 ghost use Rattle.octets.specs.Number.{two, three, four, eight, twelve, pair, triple, zeros};

@@ -1,4 +1,6 @@
 // Opening a table in lent memory: every test first, then the head, the places, all unused, and the stations. Any numbers, any plan, any memory.
+#![tactic(auto)]
+
 ghost use Rattle.std.specs.Prelude.{◌≡◌, ◌+◌, ◌*◌, ◌≤◌, ◌<◌, length, get_or};
 ghost use Rattle.limits.specs.Test.{total};
 ghost use Rattle.octets.specs.Over.{over};

@@ -12,7 +12,7 @@ use layout::MOST_PLACES;
 use report::{Reach, Selection, Terms};
 
 // What the writer answers: how many octets the data have, or that there is no room for them.
-#[derive(Drop)]
+#[derive(Clone, Copy)]
 pub enum Written {
     Octets(usize),
     Short,

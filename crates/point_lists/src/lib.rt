@@ -1,4 +1,6 @@
 // The registration of a batch given as a slice of point records of any length. No more points can be held than a table has places, so the first ones decide on room; but every point is tested before any is given room.
+#![tactic(auto)]
+
 ghost use Rattle.std.specs.Prelude.{◌≡◌, map, true};
 ghost use Rattle.octets.specs.Number.{Octets};
 ghost use Rattle.points.specs.Points.{whole};
@@ -17,7 +19,7 @@ use registry::Reply;
 const MANY: usize = 4611686018427387904;
 
 // How many points have been passed, the fault of the one after them, and whether there is no more to test.
-#[derive(Drop)]
+#[derive(Clone, Copy)]
 pub struct Later {
     pub count: usize,
     pub outcome: Outcome,

@@ -1,4 +1,6 @@
 // A batch as a slice of point records: each record is taken out of the slice and laid down as a flat record, the form that the batch entry reads.
+#![tactic(auto)]
+
 ghost use Rattle.std.specs.Prelude.{◌≡◌, ◌≤◌};
 ghost use Rattle.batch_records.specs.Records.{records_in};
 ghost use Rattle.replies.specs.Replies.{Replies};
@@ -13,7 +15,7 @@ use model::{Group, Request};
 use registry::Reply;
 
 // How many records have been taken out, and whether there is no room for more.
-#[derive(Drop)]
+#[derive(Clone, Copy)]
 pub struct Taken {
     pub count: usize,
     pub done: bool,

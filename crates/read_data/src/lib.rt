@@ -1,4 +1,6 @@
 // The data of a read command: sized first, then written, one ASDU for each object in the command's order. From `handle_read` of `system_command_handler.rs` and `monitoring_asdu_requested` of `output.rs`.
+#![tactic(auto)]
+
 ghost use Rattle.std.specs.Prelude.{◌≡◌, ◌+◌, ◌*◌, ◌≤◌, length};
 ghost use Rattle.limits.specs.Size.{header_octets, count_limit};
 ghost use Rattle.layout.specs.Layout.{place_size};
@@ -15,7 +17,7 @@ use limits::size::{ADDRESS_OCTETS, HEADER_OCTETS};
 use lookup::Spot;
 
 // What a read command asks for: the octets of all requested ASDUs together, or an address that no point has.
-#[derive(Drop)]
+#[derive(Clone, Copy)]
 pub enum Asked {
     Known(usize),
     AddressMissing,

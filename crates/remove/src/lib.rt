@@ -1,4 +1,6 @@
 // Taking points out of a table's memory: one point of a station, or all of them. The plan and K stay.
+#![tactic(auto)]
+
 ghost use Rattle.std.specs.Prelude.{◌≡◌, ◌+◌, ◌*◌, ◌≤◌, ◌<◌, length};
 ghost use Rattle.layout.specs.Layout.{place_size, station_size, capacity_in, points_in, size_in};
 ghost use Rattle.remove.specs.Remove.{closed_up, taken_out, none_held, all_taken_out, Removable};

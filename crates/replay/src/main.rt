@@ -1,5 +1,7 @@
 // Makes the calls of lists on the entries of the C interface and on the two forms by hand, and prints a line for each. Every
 // argument names a list, a script in data/ of the form that reference/script.py describes; a further list is a further file and word.
+#![tactic(auto)]
+
 mod by_hand;
 mod commands;
 mod registration;

@@ -1,4 +1,6 @@
 // What a call that changes the table gives back: an outcome with no place, and the outcome that goes with what the share rule answers.
+#![tactic(auto)]
+
 ghost use Rattle.std.specs.Prelude.{◌≡◌};
 ghost use Rattle.registry.specs.Registry.{admission_outcome};
 ghost use Rattle.replies.specs.Replies.{placeless};

@@ -1,4 +1,6 @@
 // What a report is: which points a command asks for, of which places and in which terms, how their objects are packed into ASDUs, and in which order. The octets are written by the crates above.
+#![tactic(auto)]
+
 ghost use Rattle.std.specs.Prelude.{◌≡◌, ◌+◌, ◌≤◌, length};
 ghost use Rattle.layout.specs.Layout.{place_size};
 ghost use Rattle.model.specs.Place.{point_at};
@@ -7,7 +9,7 @@ ghost use Rattle.report.specs.Selection.{selects};
 use layout::{COUNTER_OFFSET, GROUP_OFFSET};
 
 // The points that a command asks for: every one (global interrogation, counters general), those of an interrogation group 1 to 16, or those of a counter group 1 to 4.
-#[derive(Drop)]
+#[derive(Clone, Copy)]
 pub enum Selection {
     Every,
     Group(u8),
@@ -15,7 +17,7 @@ pub enum Selection {
 }
 
 // The n places from `base`: every station's, or one station's own.
-#[derive(Drop)]
+#[derive(Clone, Copy)]
 pub struct Reach {
     pub base: usize,
     pub n: usize,
@@ -23,7 +25,7 @@ pub struct Reach {
 }
 
 // What all ASDUs of a report have in common: the length limit, the cause and the common address.
-#[derive(Drop)]
+#[derive(Clone, Copy)]
 pub struct Terms {
     pub limit: usize,
     pub cause: u8,

@@ -1,4 +1,6 @@
 // Counters set to 0 in a table's memory. From `apply_counter_freeze_qualifier` of `system_command_handler.rs`.
+#![tactic(auto)]
+
 ghost use Rattle.std.specs.Prelude.{◌≡◌, ◌+◌, ◌*◌, ◌≤◌, length};
 ghost use Rattle.layout.specs.Layout.{place_size};
 ghost use Rattle.resets.specs.Resets.{takes_at, reset_place, reset_places};

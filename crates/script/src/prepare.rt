@@ -3,7 +3,7 @@ use crate::memory::{copy_in, fill_first, put};
 use crate::reading::{length_in_four, octet, part, past};
 
 // Where a script stands, and how many octets of each memory are lent to the calls.
-#[derive(Drop)]
+#[derive(Clone, Copy)]
 pub struct Lent {
     pub at: usize,
     pub table: usize,

@@ -1,4 +1,6 @@
 // What a table's settings say, asked of its memory. Today it has none: each of these is document 01's behaviour.
+#![tactic(auto)]
+
 ghost use Rattle.std.specs.Prelude.{◌≡◌, true, ◌≤◌};
 ghost use Rattle.limits.specs.Size.{standard_limit};
 ghost use Rattle.table.specs.Memory.{well_formed, table_of};

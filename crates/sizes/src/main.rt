@@ -1,6 +1,8 @@
 // Prints what `limits::size` says: for all 256 types the class, the element octets and the most objects of an ASDU; for
 // each point type the octets of runs about the ends of an ASDU, and of 4,096 objects. The numbers that it must print
 // are made by reference/sizes.py, which knows nothing of this code.
+#![tactic(auto)]
+
 ghost use Rattle.std.specs.Prelude.{◌≤◌};
 
 use limits::size::Class;

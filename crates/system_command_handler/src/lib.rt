@@ -1,5 +1,7 @@
 // The entry for system commands: interrogation, counters with reset, read, clock, tests, reset process. From `system_command_handler.rs` and
 // `handle_ingress_asdu` of `actor.rs`. It tests everything itself: any octets may be lent as the table, the command and the answer memory.
+#![tactic(auto)]
+
 ghost use Rattle.std.specs.Prelude.{◌≡◌, true, false, [], ◌∷◌, ◌+◌, ◌≤◌, ◌<◌, length};
 ghost use Rattle.limits.specs.Test.{pick};
 ghost use Rattle.limits.specs.Size.{count_limit};
@@ -23,7 +25,7 @@ use lookup::Seat;
 use read_data::Asked;
 
 // What the entry gives back: the number and octets, and the last master clock, seven octets and the known flag.
-#[derive(Drop)]
+#[derive(Clone, Copy)]
 pub struct SystemAnswered {
     pub answered: Answered,
     pub clock: [u8; 8],

@@ -1,4 +1,6 @@
 // The updates of a process command: sized first, then stored and told, one after another. From `apply_model_updates` of `commands.rs`.
+#![tactic(auto)]
+
 ghost use Rattle.std.specs.Prelude.{◌≡◌, true, ◌+◌, ◌*◌, ◌≤◌, length};
 ghost use Rattle.layout.specs.Layout.{value_offset, value_size};
 ghost use Rattle.table.specs.Memory.{well_formed};
@@ -24,7 +26,7 @@ pub const UPDATE_OCTETS: usize = 18;
 // ---- which point an update means
 
 // The place of the point that an update means; skipped where its address is unknown or the point has another type.
-#[derive(Drop)]
+#[derive(Clone, Copy)]
 enum Target {
     Place(usize),
     Skipped,

@@ -1,4 +1,6 @@
 // The test for well-formedness of a table in lent memory. It has no condition: any octets, any length.
+#![tactic(auto)]
+
 ghost use Rattle.std.specs.Prelude.{◌≡◌, ◌+◌, ◌*◌, ◌-◌, ◌≤◌, ◌<◌, length};
 ghost use Rattle.layout.specs.Layout.{head_size, place_size, station_size, most_stations, after_places, held_at};
 ghost use Rattle.model.specs.Limits.{place_limits};
@@ -122,7 +124,7 @@ fn plan_ok(m: &[u8], k: usize, at: usize, n: usize) -> bool
 // ---- the shares
 
 // Sums over stations.
-#[derive(Drop)]
+#[derive(Clone, Copy)]
 pub struct Sums {
     pub reserved: usize,
     pub held: usize,
