@@ -1,0 +1,24 @@
+-- The rule is asked with what the station's share says. Assumes nothing.
+use mathlib.Core.Path.{ap, ◌∙◌}
+use Rattle.limits.specs.Share.{admission_of}
+use Rattle.registry.specs.declared.StationShare.{StationShare}
+use Rattle.registry.specs.Registry.{admission_outcome}
+use Rattle.actor.specs.Actor.{room_at, station_share_at}
+use borrow.Author.Rules.{rules}
+use Rattle.actor.proofs.room_at.Goals as goal
+
+pub share_here-here-requires : goal.share_here-here-requires
+share_here-here-requires c = search rules
+
+pub admission-requires : goal.admission-requires
+admission-requires c = search rules
+
+pub outcome_of-requires : goal.outcome_of-requires
+outcome_of-requires c = search rules
+
+pub returns : goal.returns
+unfolding room_at station_share_at
+returns c =
+    c.outcome_of.ensures
+    ∙ ap admission_outcome c.admission.ensures
+    ∙ ap (λ (s : StationShare). admission_outcome (admission_of (record { held = s.held; reservation = s.reservation; ceiling = s.ceiling }) s.free s.unmet)) c.share_here-here.ensures

@@ -1,0 +1,46 @@
+-- What was read is what the definition reads. Assumes nothing.
+use mathlib.Core.Path.{◌∙◌}
+use Prim.Native.Nat.{◌-◌}
+use Rattle.layout.specs.Layout.{after_places}
+use Rattle.limits.specs.declared.outcome.Outcome.TheVariants.{Done}
+use Rattle.table.specs.Memory.{sum_at, unmet_at}
+use Rattle.wellformed.specs.Station.{share_at}
+use Rattle.actor.specs.Actor.{station_share_at}
+use borrow.Author.Rules.{rules}
+use Rattle.actor.proofs.share_here.Goals as goal
+
+pub capacity_of-k-requires : goal.capacity_of-k-requires
+capacity_of-k-requires c = search rules
+
+pub stations_of-n-requires : goal.stations_of-n-requires
+stations_of-n-requires c = search rules
+
+pub points_of-points-requires : goal.points_of-points-requires
+points_of-points-requires c = search rules
+
+pub overflow_mul-k : goal.overflow_mul-k
+overflow_mul-k c = search rules
+
+pub overflow_add-k : goal.overflow_add-k
+overflow_add-k c = search rules
+
+pub add_up-sums-requires : goal.add_up-sums-requires
+add_up-sums-requires c = search rules
+
+pub station_at-station-requires : goal.station_at-station-requires
+station_at-station-requires c = search rules
+
+pub share_at-share-requires : goal.share_at-share-requires
+share_at-share-requires c = search rules
+
+pub overflow_sub-result : goal.overflow_sub-result
+overflow_sub-result c = search rules
+
+pub returns : goal.returns
+unfolding station_share_at
+returns c =
+    let m = c.args.m.now in
+    let k = c.capacity_of-k.ensures.0 in
+    let s = c.share_at-share.ensures.0 ∙ (λ j. share_at m (c.station_at-station.ensures j)) in
+    let u = c.add_up-sums.ensures.2 ∙ (λ j. sum_at unmet_at m (after_places (k j)) (c.stations_of-n.ensures.0 j)) in
+    λ j. record { outcome = Done; reservation = (s j).reservation; ceiling = (s j).ceiling; held = (s j).held; free = k j - c.points_of-points.ensures.0 j; unmet = u j }

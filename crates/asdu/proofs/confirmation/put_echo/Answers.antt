@@ -1,0 +1,27 @@
+-- The part that is lent is all octets after the command's own header.
+use borrow.Author.Rules.{rules}
+use native.Mathlib.Omega.{arith}
+use lib.ListN.{length-drop}
+use Rattle.octets.specs.Number.{Octets}
+use Rattle.asdu.proofs.Lengths.{echo_octets}
+use Rattle.asdu.proofs.Laws.{lent_rest}
+use Rattle.asdu.proofs.confirmation.put_echo.Goals as goal
+
+pub slice_bounds-put_reply-count : goal.slice_bounds-put_reply-count
+slice_bounds-put_reply-count c = search rules
+
+pub put_reply-requires : goal.put_reply-requires
+put_reply-requires c =
+    let n = lent_rest c.args.asdu.now 6 in
+    (c.requires.0, rw n (simp length-drop (omega arith)))
+
+pub shape_of-out : goal.shape_of-out
+shape_of-out c = search rules
+
+pub returns : goal.returns
+returns c =
+    let known = c.shared_slice_known-1 in
+    let a = c.args in
+    let n = lent_rest a.asdu.now 6 in
+    let o : Octets a.asdu.now = λ i. omega (arith, known.given i) in
+    rw (echo_octets a.command a.asdu.now a.cause a.negative o c.requires.1) (rw n at c.put_reply.ensures)

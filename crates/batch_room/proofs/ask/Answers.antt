@@ -1,0 +1,44 @@
+-- The answer and the two numbers, each from the function that makes it. Assumes nothing.
+use borrow.Author.Rules.{rules}
+use mathlib.Core.Path.{ap, ap₂, ◌∙◌}
+use Prim.Native.Nat.{◌-◌}
+use Rattle.registry.specs.Registry.{admission_outcome}
+use Rattle.limits.specs.Share.{unmet_of}
+use Rattle.batch_room.specs.Room.{standing_of}
+use Rattle.batch_room.proofs.ask.Goals as goal
+
+pub admission-answer-requires : goal.admission-answer-requires
+admission-answer-requires c = search rules
+
+pub take_in-more-requires : goal.take_in-more-requires
+take_in-more-requires c = search rules
+
+pub unmet-requires : goal.unmet-requires
+unmet-requires c = search rules
+
+pub unmet-requires-2 : goal.unmet-requires-2
+unmet-requires-2 c = search rules
+
+pub without-met-requires : goal.without-met-requires
+without-met-requires c = search rules
+
+pub outcome_of-outcome-requires : goal.outcome_of-outcome-requires
+outcome_of-outcome-requires c = search rules
+
+pub without-requires : goal.without-requires
+without-requires c = search rules
+
+pub without-requires-2 : goal.without-requires-2
+without-requires-2 c = search rules
+
+pub returns : goal.returns
+unfolding standing_of
+returns c =
+    let a = c.args in
+    let answer = c.outcome_of-outcome.ensures ∙ ap admission_outcome c.admission-answer.ensures in
+    let more = c.take_in-more.ensures in
+    let lost = c.without-met.ensures
+    ∙ ap₂ (λ (x y : _). x - y) c.unmet.ensures (c.unmet-2.ensures ∙ ap unmet_of more) in
+    let free = c.without.ensures in
+    let unmet = c.without-2.ensures ∙ ap (λ (x : _). a.unmet - x) lost in
+    (λ j. record { outcome = answer j; free = free j; unmet = unmet j })

@@ -1,0 +1,26 @@
+-- The share's numbers are the octets' and what was taken in. Assumes nothing.
+use borrow.Author.Rules.{rules}
+use native.Mathlib.Omega.{arith}
+use mathlib.Core.Path.{ap}
+use Prim.Native.Nat.{◌+◌}
+use Rattle.limits.specs.declared.share.Share.{Share}
+use Rattle.layout.specs.Layout.{ceiling_offset}
+use Rattle.batch_room.specs.Room.{share_with}
+use Rattle.batch_room.proofs.share_with.Goals as goal
+
+pub share_at-share-requires : goal.share_at-share-requires
+share_at-share-requires c = search rules
+
+pub overflow_add-result : goal.overflow_add-result
+overflow_add-result c = search rules
+
+pub returns : goal.returns
+unfolding share_with
+returns c =
+    let a = c.args in
+    let s = c.share_at-share.ensures.0 in
+    let ceiling = ap (λ (x : Share). x.ceiling) s in
+    let octet = c.shared_slice_known-1.given in (
+      (λ j. record { held = (s j).held + a.taken; reservation = (s j).reservation; ceiling = (s j).ceiling }),
+      omega (arith, octet (a.at + ceiling_offset), octet (a.at + ceiling_offset + 1)),
+    )

@@ -1,0 +1,22 @@
+-- The loop over the records: what is left is the recursion of `room_run`. Assumes nothing.
+use borrow.Author.Rules.{rules}
+use native.Mathlib.Omega.{arith}
+use borrow.Author.Tests.{not-true, not-false}
+use mathlib.Core.Path.{◌≡◌, sym, ap, ◌∙◌}
+use Prim.Native.Nat.{ℕ, ◌*◌, ◌-◌, ◌≤◌}
+use lib.ListN.{length}
+use Rattle.model.specs.Request.{requests_at}
+use Rattle.batch_records.specs.Records.{requests_in}
+use Rattle.lookup.specs.Seats.{seat_at}
+use Rattle.batch_room.specs.Room.{standing_at, taken_at, room_run, taken_run}
+use Rattle.batch_room.proofs.Laws.{run-start, run_on_lem, run-stop, run_end, taken_start, taken-on, taken-stop, taken-end}
+use Rattle.batch_room.proofs.turns.Given as goal
+
+abbrev pub invariant-loop-i : goal.invariant-loop-i
+invariant-loop-i l =
+    (room_run l.m l.initial.taken l.free l.unmet 0 (requests_in l.records) ≡ room_run l.m l.taken l.free_now l.unmet_now l.i (requests_at l.records (24 * l.i) (l.n - l.i)))
+    × (taken_run l.m l.initial.taken l.free l.unmet (requests_in l.records) ≡ taken_run l.m l.taken l.free_now l.unmet_now (requests_at l.records (24 * l.i) (l.n - l.i)))
+    × (l.i ≤ l.n) × (24 * l.n ≤ length l.records)
+
+abbrev pub decreases-loop-i : goal.decreases-loop-i
+decreases-loop-i l = l.n - l.i

@@ -1,0 +1,13 @@
+-- Where the flag is not set, the caller knows that the address does not stand there. Assumes nothing.
+use borrow.Author.Rules.{rules}
+use mathlib.Core.Path.{sym}
+use Rattle.batch_tests.proofs.stands_flagged.Goals as goal
+
+pub returns-then-flag-eq0 : goal.returns-then-flag-eq0
+returns-then-flag-eq0 c = sym (c.requires.1 c.if-flag-eq0.true)
+
+pub stands_before-requires : goal.stands_before-requires
+stands_before-requires c = search rules
+
+pub returns : goal.returns
+returns c = search rules

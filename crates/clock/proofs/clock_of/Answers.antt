@@ -1,0 +1,46 @@
+-- Seven octets read one by one are the first seven. Assumes nothing.
+use mathlib.Core.Path.{ap}
+use Prim.Native.Nat.{ℕ}
+use mathlib.Core.List.{List}
+use mathlib.Core.Bool.{Bool, not}
+use lib.ListN.{get_or}
+use lib.Dec.{eqb}
+use Rattle.table.proofs.Points.{gets, gets_drop}
+use Rattle.clock.specs.declared.Clock.{Clock}
+use borrow.Author.Rules.{rules}
+use native.Mathlib.Omega.{arith}
+use Rattle.clock.proofs.clock_of.Goals as goal
+
+pub bounds-flat-0 : goal.bounds-flat-0
+bounds-flat-0 c = search rules
+
+pub bounds-flat-1 : goal.bounds-flat-1
+bounds-flat-1 c = search rules
+
+pub bounds-flat-2 : goal.bounds-flat-2
+bounds-flat-2 c = search rules
+
+pub bounds-flat-3 : goal.bounds-flat-3
+bounds-flat-3 c = search rules
+
+pub bounds-flat-4 : goal.bounds-flat-4
+bounds-flat-4 c = search rules
+
+pub bounds-flat-5 : goal.bounds-flat-5
+bounds-flat-5 c = search rules
+
+pub bounds-flat-6 : goal.bounds-flat-6
+bounds-flat-6 c = search rules
+
+pub bounds-flat-7 : goal.bounds-flat-7
+bounds-flat-7 c = search rules
+
+-- a clock of its parts
+abbrev clock_with : List ℕ → Bool → Clock
+clock_with time known = record { octets = time; known = known }
+
+pub returns : goal.returns
+unfolding gets
+returns c =
+    let flat = c.args.t1 in
+    (ap (λ (l : List ℕ). clock_with l (not (eqb (get_or flat 7 0) 0))) (gets_drop 0 7 flat (omega arith)), omega arith)

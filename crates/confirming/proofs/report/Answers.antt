@@ -1,0 +1,150 @@
+-- The data are written if the whole fits, then what stands before and after them. Assumes nothing.
+use mathlib.Core.Path.{◌≡◌, sym, ap, ◌∙◌}
+use mathlib.Core.Bool.{false}
+use mathlib.Core.List.{List}
+use Prim.Native.Nat.{ℕ, ◌+◌, ◌≤◌}
+use lib.ListN.{length}
+use Rattle.octets.specs.Number.{Octets}
+use Rattle.table.specs.Memory.{table_of}
+use Rattle.table.specs.Settings.{limit_of}
+use Rattle.table.proofs.Parse.{passed}
+use Rattle.asdu.proofs.Lengths.{length_confirmation}
+use Rattle.asdu.specs.Header.{wire}
+use Rattle.asdu.specs.Command.{first_element}
+use Rattle.report.specs.declared.Reach.{Reach}
+use Rattle.report.specs.Packing.{selected}
+use Rattle.report.specs.Selection.{selects}
+use Rattle.report.specs.Report.{report}
+use Rattle.report.specs.Order.{points_for}
+use Rattle.output.specs.Data.{data_of, wrote, written}
+use Rattle.output.proofs.Reached.{reached}
+use Rattle.confirming.proofs.Laws.{data_is, no_room, has_room, all-written}
+use borrow.Author.Rules.{rules}
+use native.Mathlib.Omega.{arith}
+use Rattle.confirming.proofs.report.Goals as goal
+use Rattle.confirming.proofs.report.Goals.{After-put_data, In-Octets-2}
+
+-- the data that the command asks for, and the octets before and after them
+abbrev dataIn : tie.Start → List ℕ
+dataIn s =
+    wire (report (limit_of (table_of s.args.table.now)) s.args.types.now s.args.cause s.args.command.ca
+    (selected (selects s.args.selection) (points_for s.args.command.ca (table_of s.args.table.now).stations)))
+
+abbrev aroundIn : tie.Start → ℕ
+aroundIn s = first_element + s.args.command.element
+
+-- the data that are written are those
+same-data : (c : After-put_data) → (c.put_data.result ≡ wrote (length c.args.answer.now) (aroundIn c.before.before.before.before.before.before.before.before.before) (aroundIn c.before.before.before.before.before.before.before.before.before) (dataIn c.before.before.before.before.before.before.before.before.before))
+    × (c.put_data.new.0 ≡ written c.args.answer.now (aroundIn c.before.before.before.before.before.before.before.before.before) (aroundIn c.before.before.before.before.before.before.before.before.before) (dataIn c.before.before.before.before.before.before.before.before.before))
+same-data c =
+    let a = c.args in
+    let t = a.table.now in
+    let o : Octets t = λ k. omega (arith, c.shared_slice_known-1.given k) in
+    let r = c.reach_of-reach in
+    let n = c.limit_of-limit.ensures.0 in
+    let d =
+    ap wire
+    ((λ j. data_of (record { limit = n j; cause = a.cause; ca = a.command.ca }) a.types.now a.selection t r.result)
+    ∙ data_is (record { limit = limit_of (table_of t); cause = a.cause; ca = a.command.ca }) a.types.now a.selection t a.command.ca r.result r.ensures o c.requires.0) in
+    let e = c.put_data.ensures in
+    let out = a.answer.now in
+    (e.0 ∙ ap (wrote (length out) (aroundIn c.before.before.before.before.before.before.before.before.before) (aroundIn c.before.before.before.before.before.before.before.before.before)) d, e.1 ∙ ap (written out (aroundIn c.before.before.before.before.before.before.before.before.before) (aroundIn c.before.before.before.before.before.before.before.before.before)) d)
+
+-- the whole fits
+room : (c : In-Octets-2) → aroundIn c.before.before.before.before.before.before.before.before.before.before.before.before.before + (c.in-Octets.octets + aroundIn c.before.before.before.before.before.before.before.before.before.before.before.before.before) ≤ length c.args.answer.now
+room c =
+    let a = c.args in
+    has_room (table_of a.table.now) a.command a.asdu.now a.types.now a.cause a.selection a.answer.now c.requires.3.1 _
+    (sym (same-data c.before.before.before.before).0 ∙ c.in-Octets.is)
+
+pub limit_of-limit-requires : goal.limit_of-limit-requires
+limit_of-limit-requires c = search rules
+
+pub reach_of-reach-requires : goal.reach_of-reach-requires
+reach_of-reach-requires c =
+    let p = (passed c.args.table.now c.requires.0).top in
+    (p.s_high, p.room)
+
+pub overflow_add-before : goal.overflow_add-before
+overflow_add-before c = search rules
+
+pub overflow_add-before-2 : goal.overflow_add-before-2
+overflow_add-before-2 c = search rules
+
+pub put_data-requires : goal.put_data-requires
+put_data-requires c =
+    let t = c.args.table.now in
+    let o : Octets t = λ k. omega (arith, c.shared_slice_known-1.given k) in
+    let e = c.reach_of-reach.ensures in
+    let eb = ap (λ (x : Reach). x.base) e in
+    let en = ap (λ (x : Reach). x.n) e in
+    let z = reached t c.args.command.ca o c.requires.0 in
+    let lies = z.lies in
+    let few = z.few in
+    let l = c.limit_of-limit.ensures in
+    let p = c.requires in
+    (omega arith, omega arith, (omega arith, omega arith), p.1, ((l.1, l.2), p.2))
+
+pub enum_known-octets : goal.enum_known-octets
+enum_known-octets c = search rules
+
+pub enum_told-1 : goal.enum_told-1
+enum_told-1 c = search rules
+
+pub nothing-requires : goal.nothing-requires
+nothing-requires c = search rules
+
+pub shape_of-answer-in_default : goal.shape_of-answer-in_default
+shape_of-answer-in_default c = search rules
+
+pub returns-in_default : goal.returns-in_default
+returns-in_default c =
+    let d = same-data (goal.at.returns-in_default c).After-put_data in
+    let a = c.args in
+    rw c.nothing.ensures
+    (no_room (table_of a.table.now) a.command a.asdu.now a.types.now a.cause a.selection a.answer.now c.requires.3.1 (sym d.0 ∙ c.in_default.is) _ d.1)
+
+pub put_confirmation-requires : goal.put_confirmation-requires
+put_confirmation-requires c =
+    let fits = room (goal.at.put_confirmation-requires c).In-Octets-2 in
+    let l = length_confirmation c.args.command c.args.asdu.now 7 false c.requires.3.1 in
+    let kept = c.put_data.auto.0 in
+    (omega arith, c.requires.3.1, omega arith)
+
+pub overflow_add-before-3 : goal.overflow_add-before-3
+overflow_add-before-3 c =
+    let fits = room (goal.at.overflow_add-before-3 c).In-Octets-2 in
+    let fit = start.well_formed_lem in
+    omega arith
+
+pub put_termination-requires : goal.put_termination-requires
+put_termination-requires c =
+    let fits = room (goal.at.put_termination-requires c).In-Octets-2 in
+    let kept = c.put_data.auto.0 in
+    let again = c.put_confirmation.auto.0 in
+    (c.requires.3, omega arith)
+
+pub overflow_add-octets : goal.overflow_add-octets
+overflow_add-octets c =
+    let fits = room (goal.at.overflow_add-octets c).In-Octets-2 in
+    let fit = start.well_formed_lem in
+    omega arith
+
+pub overflow_add-before-4 : goal.overflow_add-before-4
+overflow_add-before-4 c =
+    let fits = room (goal.at.overflow_add-before-4 c).In-Octets-2 in
+    let fit = start.well_formed_lem in
+    omega arith
+
+pub given-requires : goal.given-requires
+given-requires c = search rules
+
+pub shape_of-answer : goal.shape_of-answer
+shape_of-answer c = search rules
+
+pub returns : goal.returns
+returns c =
+    let d = same-data (goal.at.returns c).After-put_data in
+    let a = c.args in
+    rw c.given.ensures
+    (all-written (table_of a.table.now) a.command a.asdu.now a.types.now a.cause a.selection a.answer.now c.requires.3.1 _ (sym d.0 ∙ c.in-Octets.is) _ _ _ d.1 c.put_confirmation.ensures.1 c.put_termination.ensures)

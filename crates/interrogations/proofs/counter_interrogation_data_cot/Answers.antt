@@ -1,0 +1,20 @@
+-- All, or a group. Assumes nothing.
+use mathlib.Core.Path.{sym, ap, ◌∙◌}
+use Prim.Native.Nat.{ℕ, ◌+◌}
+use borrow.Author.Tests.{eq-eqb, ne_eqb}
+use borrow.Author.Rules.{rules}
+use Rattle.interrogations.proofs.counter_interrogation_data_cot.Goals as goal
+
+pub choice_of-choice-requires : goal.choice_of-choice-requires
+choice_of-choice-requires c = search rules
+
+pub returns-then-choice-eq5 : goal.returns-then-choice-eq5
+returns-then-choice-eq5 c = sym (simp (eq-eqb _ _ (sym c.choice_of-choice.ensures ∙ c.if-choice-eq5.true)))
+
+pub overflow_add-result : goal.overflow_add-result
+overflow_add-result c = search rules
+
+pub returns : goal.returns
+returns c =
+    let e = c.choice_of-choice.ensures in
+    sym (simp (ne_eqb _ _ (λ q. c.if-choice-eq5.false (e ∙ q))) (ap (λ (g : ℕ). 37 + g) (sym e)))

@@ -1,0 +1,32 @@
+-- The request is the one in the record; then what the entry gives back, in plain numbers, and the memory as the entry leaves it. Assumes nothing.
+use borrow.Author.Rules.{rules}
+use mathlib.Core.Path.{ap, ◌∙◌}
+use Rattle.model.specs.declared.Request.{Request}
+use Rattle.registry.specs.Effect.{reply_on, memory_on}
+use Rattle.registry.specs.Registry.{registering}
+use Rattle.khuvelter.specs.Interface.{place_reply}
+use Rattle.khuvelter.specs.Calls.{table_alone}
+use Rattle.khuvelter.proofs.khuvelter_register_point.Goals as goal
+
+pub request_at-request-requires : goal.request_at-request-requires
+request_at-request-requires c = search rules
+
+pub register_point-requires : goal.register_point-requires
+register_point-requires c = search rules
+
+pub place_reply-requires : goal.place_reply-requires
+place_reply-requires c = search rules
+
+pub shape_of-table : goal.shape_of-table
+shape_of-table c = search rules
+
+pub returns : goal.returns
+returns c =
+    let a = c.args in
+    let m = a.table.now in
+    let q = c.request_at-request.ensures in
+    let e = c.register_point.ensures in
+    record {
+      answered = c.place_reply.ensures ∙ ap place_reply (e.0 ∙ ap (λ (x : Request). reply_on (registering x) m) q);
+      left = ap table_alone (e.1 ∙ ap (λ (x : Request). memory_on (registering x) m) q);
+    }

@@ -1,0 +1,20 @@
+-- What the entry gives back, in plain numbers; the memory is as the entry leaves it. Assumes nothing.
+use borrow.Author.Rules.{rules}
+use mathlib.Core.Path.{ap, ◌∙◌}
+use Rattle.khuvelter.specs.Interface.{place_reply}
+use Rattle.khuvelter.specs.Calls.{table_alone}
+use Rattle.khuvelter.proofs.khuvelter_register_points.Goals as goal
+
+pub register_points-requires : goal.register_points-requires
+register_points-requires c = search rules
+
+pub place_reply-requires : goal.place_reply-requires
+place_reply-requires c = search rules
+
+pub shape_of-table : goal.shape_of-table
+shape_of-table c = search rules
+
+pub returns : goal.returns
+returns c =
+    let e = c.register_points.ensures in
+    record { answered = c.place_reply.ensures ∙ ap place_reply e.0; left = ap table_alone e.1 }

@@ -1,0 +1,15 @@
+-- Field by field. Assumes nothing.
+use borrow.Author.Rules.{rules}
+use Rattle.khuvelter.proofs.place_reply.Goals as goal
+
+pub number-number-requires : goal.number-number-requires
+number-number-requires c = search rules
+
+pub narrow-place-requires : goal.narrow-place-requires
+narrow-place-requires c = search rules
+
+pub returns : goal.returns
+returns c =
+    let n = c.number-number.ensures in
+    let p = c.narrow-place.ensures in
+    λ j. record { number = n j; place = p j; octets = 0; spontaneous = 0 }

@@ -1,0 +1,11 @@
+-- Field by field. Assumes nothing.
+use borrow.Author.Rules.{rules}
+use Rattle.khuvelter.proofs.plain_reply.Goals as goal
+
+pub number-requires : goal.number-requires
+number-requires c = search rules
+
+pub returns : goal.returns
+returns c =
+    let n = c.number.ensures in
+    λ j. record { number = n j; place = 0; octets = 0; spontaneous = 0 }

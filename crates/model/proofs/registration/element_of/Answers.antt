@@ -1,0 +1,15 @@
+-- Zeros written past the element make the octets that are kept.
+use mathlib.Core.Path.{◌∙◌}
+use Rattle.model.proofs.Requests.{element_over}
+use borrow.Author.Rules.{rules}
+use native.Mathlib.Omega.{arith}
+use Rattle.model.proofs.registration.element_of.Goals as goal
+
+pub slice_bounds-clear-end : goal.slice_bounds-clear-end
+slice_bounds-clear-end c = search rules
+
+pub clear-requires : goal.clear-requires
+clear-requires c = search rules
+
+pub returns : goal.returns
+returns c = c.clear.ensures ∙ element_over _ _ (omega arith) (omega arith)

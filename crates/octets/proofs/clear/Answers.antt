@@ -1,0 +1,40 @@
+use mathlib.Core.Path.{◌≡◌, refl, ◌∙◌}
+use Prim.Native.Nat.{◌-◌, ◌≤◌}
+use lib.ListN.{length, replicate, length-set}
+use lib.Seq.{paste, paste-zero}
+use Rattle.octets.proofs.Laws.{clear_step, clear_done}
+use borrow.Author.Rules.{rules}
+use native.Mathlib.Omega.{arith}
+use Rattle.octets.proofs.clear.Goals as goal
+
+pub overflow_sub-n : goal.overflow_sub-n
+overflow_sub-n c = search rules
+
+pub loop-j-init : goal.loop-j-init
+loop-j-init c = (search rules, paste-zero c.args.m.now c.args.from (replicate (c.args.to - c.args.from) 0), refl)
+
+pub overflow_add-m : goal.overflow_add-m
+overflow_add-m c = search rules
+
+pub bounds-m-from : goal.bounds-m-from
+bounds-m-from c = search rules
+
+pub overflow_add-j : goal.overflow_add-j
+overflow_add-j c = search rules
+
+pub loop-j-smaller : goal.loop-j-smaller
+loop-j-smaller c = search rules
+
+pub loop-j-preserved : goal.loop-j-preserved
+loop-j-preserved c =
+    let a = c.args in
+    let l = c.loop-j in
+    (search rules, clear_step a.m.now l.m a.from (a.to - a.from) l.j l.invariant.1 (omega arith) (omega arith), simp length-set (omega arith))
+
+pub shape_of-m : goal.shape_of-m
+shape_of-m c = search rules
+
+pub returns : goal.returns
+returns c =
+    let a = c.args in
+    c.loop-j.invariant.1 ∙ clear_done a.m.now a.from (a.to - a.from) c.loop-j.j (omega arith) (omega arith)

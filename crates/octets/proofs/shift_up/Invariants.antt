@@ -1,0 +1,15 @@
+-- From the end down: a turn moves one octet more, and what lies below is as it was.
+use borrow.Author.Rules.{rules}
+use native.Mathlib.Omega.{arith}
+use mathlib.Core.Path.{◌≡◌, refl}
+use Prim.Native.Nat.{◌≤◌}
+use lib.ListN.{length, length-set}
+use Rattle.octets.specs.Over.{shifted}
+use Rattle.octets.proofs.Laws.{shift_none, shift_again}
+use Rattle.octets.proofs.shift_up.Given as goal
+
+abbrev pub invariant-loop-k : goal.invariant-loop-k
+invariant-loop-k l = (l.from ≤ l.k) × (l.k ≤ l.to) × (l.m ≡ shifted l.initial.m l.k l.to l.by) × (length l.m ≡ length l.initial.m)
+
+abbrev pub decreases-loop-k : goal.decreases-loop-k
+decreases-loop-k l = l.k

@@ -1,0 +1,26 @@
+-- What is written at the front of the lent part is written from `o` on.
+use borrow.Author.Rules.{rules}
+use native.Mathlib.Omega.{arith}
+use Rattle.octets.proofs.Laws.{lent_over}
+use Rattle.asdu.specs.Header.{asdu_octets}
+use Rattle.model.specs.Place.{point_at}
+use Rattle.report.specs.Single.{single}
+use Rattle.output.proofs.single.put_single.Goals as goal
+
+pub slice_bounds-put_front-count : goal.slice_bounds-put_front-count
+slice_bounds-put_front-count c = search rules
+
+pub put_front-wrote-requires : goal.put_front-wrote-requires
+put_front-wrote-requires c = search rules
+
+pub overflow_add-result : goal.overflow_add-result
+overflow_add-result c = search rules
+
+pub shape_of-out : goal.shape_of-out
+shape_of-out c = search rules
+
+pub returns : goal.returns
+returns c =
+    let a = c.args in
+    let p = c.put_front-wrote in
+    (omega (arith, p.ensures.0), rw p.ensures.1 (lent_over a.out.now (asdu_octets (single a.cause a.ca (point_at a.m.now a.at))) a.o (omega arith)))

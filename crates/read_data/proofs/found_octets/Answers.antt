@@ -1,0 +1,46 @@
+-- By the two answers of `find`; a place found lies in the memory.
+use borrow.Author.Rules.{rules}
+use native.Mathlib.Omega.{arith}
+use mathlib.Core.Path.{sym, ap, ◌∙◌}
+use Prim.Native.Nat.{ℕ, ◌+◌}
+use Rattle.read_data.specs.declared.Asked.TheVariants.{Known}
+use Rattle.read_data.specs.Reads.{asked_of}
+use Rattle.read_data.proofs.Turns.{held_inside}
+use Rattle.read_data.proofs.found_octets.Goals as goal
+
+pub find-spot-requires : goal.find-spot-requires
+find-spot-requires c = search rules
+
+pub enum_known-spot : goal.enum_known-spot
+enum_known-spot c = search rules
+
+pub overflow_add-result : goal.overflow_add-result
+overflow_add-result c = search rules
+
+pub bounds-m-at : goal.bounds-m-at
+bounds-m-at c =
+    let a = c.args in
+    let h = held_inside a.m.now a.first a.h a.ioa _ (sym c.find-spot.ensures ∙ c.in-Held.is) in
+    omega arith
+
+pub point_octets-requires : goal.point_octets-requires
+point_octets-requires c = search rules
+
+pub overflow_add-result-in-Held : goal.overflow_add-result-in-Held
+overflow_add-result-in-Held c = search rules
+
+pub enum_told-1 : goal.enum_told-1
+enum_told-1 c = search rules
+
+pub returns-in-Held : goal.returns-in-Held
+unfolding asked_of
+returns-in-Held c =
+    let m = c.args.m.now in
+    let e = sym c.find-spot.ensures ∙ c.in-Held.is in
+    ap (λ (n : ℕ). Known (9 + n)) c.point_octets.ensures.0 ∙ sym (ap (asked_of m) e)
+
+pub returns-in-Missing : goal.returns-in-Missing
+unfolding asked_of
+returns-in-Missing c =
+    let m = c.args.m.now in
+    sym (ap (asked_of m) (sym c.find-spot.ensures ∙ c.in-Missing.is))

@@ -1,0 +1,19 @@
+-- What is left to clear makes the same memory at each turn.
+use mathlib.Core.Path.{◌≡◌, refl, sym, ap, ◌∙◌}
+use mathlib.Core.List.{List}
+use Prim.Native.Nat.{ℕ, ◌+◌, ◌*◌, ◌-◌, ◌≤◌}
+use lib.ListN.{length}
+use Rattle.octets.specs.Number.{pair}
+use Rattle.octets.proofs.Laws.{length_over}
+use Rattle.remove.specs.Remove.{none_held}
+use Rattle.remove.proofs.Emptied.{none_held_on, none_held_end}
+use borrow.Author.Rules.{rules}
+use native.Mathlib.Omega.{arith}
+use Rattle.remove.proofs.none_held.Given as goal
+
+abbrev pub invariant-loop-left : goal.invariant-loop-left
+invariant-loop-left l =
+    (none_held l.initial.m l.at l.n ≡ none_held l.m l.station l.left) × (l.station + 8 * l.left ≤ length l.m) × (length l.m ≡ length l.initial.m)
+
+abbrev pub decreases-loop-left : goal.decreases-loop-left
+decreases-loop-left l = l.left

@@ -1,0 +1,345 @@
+#!/usr/bin/env python3
+"""Turns proofs of the older form, proofs/F/Proof.antt over `Tie`, into Invariants.antt and Answers.antt.
+
+usage: rt names /tmp/names; python3 tools/answers.py /tmp/names CRATE..
+
+/tmp/names/crates/CRATE/names.json says what each goal and each step was called and is called. An answer that only says `search rules` goes:
+the check tries that and more by itself. What the script cannot place is printed ('look:') and kept as it was.
+"""
+
+import glob
+import json
+import os
+import re
+import sys
+
+KNOWN = ("args", "well_formed", "ranges", "requires", "auto")
+NAME = r"[A-Za-z_μ][\w'′₀₁₂₃-]*"
+PATH = re.compile(rf"(?<![\w'.◌-])({NAME})((?:\.[\w'-]+)*)")
+
+
+def norm(name):
+    return re.sub(r"-(\d+)$", r"\1", name.replace("_", "-"))
+
+
+class Function:
+    """What names.json says of one function."""
+
+    def __init__(self, d):
+        self.places = [p[0] for p in d["places"]]
+        self.parent = {p[0]: p[1] for p in d["places"]}
+        self.step = {p[0]: p[2] for p in d["places"]}
+        self.fresh = dict(zip(self.places, d["places_by_name"]))
+        self.arms = dict(zip(self.places, d["arms"]))
+        self.clauses = dict(zip(self.places, d["clauses"]))
+        self.typed = dict(zip(self.places, d["typed"]))
+        self.needs, self.at = {}, {}
+        for (old, new), (oldplace, _) in zip(d["needs"], d["asked_at"]):
+            self.needs[norm(old)] = new
+            self.at[new] = oldplace
+        self.loops, self.changed = d["loops"], d["changed"]
+        self.by_norm = {norm(p): p for p in self.places}
+
+    def need(self, name):
+        for word in (name, re.sub(r"^(overflow|nonzero)-", "", name)):
+            if norm(word) in self.needs:
+                return self.needs[norm(word)]
+        return None
+
+    def find(self, place, field):
+        """Where the old step `field` stands, at the place or above it: the place and the step's new name; None for a name of an arm's own."""
+        top = place
+        for fresh in (False, True):
+            place = top
+            while place is not None:
+                old, new = self.step[place]
+                if norm(new if fresh else old) == norm(field):
+                    return place, new
+                arm = self.arms[place]
+                if arm:
+                    for _, step, _ in arm[2]:
+                        if norm(step) == norm(field):
+                            return place, None
+                place = self.parent[place]
+        return None, None
+
+    def resolve(self, top, place, words):
+        """('place', P) or ('path', [words]) or None. Steps have names of their own, so how many `before` stand there says nothing more."""
+        words = list(words)
+        while words and words[0] == "before":
+            place = self.parent[place] if place else None
+            words.pop(0)
+        if not words:
+            return ("place", place)
+        if words[0] in KNOWN:
+            return ("path", words)
+        at, new = self.find(top, words[0])
+        if at is None:
+            return None
+        arm = self.arms[at]
+        if arm:
+            for field, step, path in arm[2]:
+                if norm(step) == norm(words[0]) and words[1 : 1 + len(path)] == path:
+                    if field == arm[0] + "-own":
+                        return ("path", [field] + words[1:])
+                    return ("path", [arm[0], field] + words[1 + len(path) :])
+        if new is None:
+            return None
+        rest = words[1:]
+        if len(rest) > 1 and rest[0] == "ensures" and rest[1].isdigit() and self.clauses.get(at):
+            labels = self.clauses[at]
+            try:
+                label = labels[int(rest[1])]
+                if isinstance(label, str) and label:
+                    rest = [rest[0], label] + rest[2:]
+            except (IndexError, TypeError, KeyError):
+                pass
+        return ("path", [new] + rest)
+
+    def up(self, place, above):
+        n = 0
+        while place is not None and place != above:
+            place = self.parent[place]
+            n += 1
+        return n
+
+
+def items(text):
+    """Top-level items of a proof file: (comment lines, unfolding lines, lines)."""
+    out, comment, current = [], [], None
+    for line in text.split("\n"):
+        if line.startswith("--"):
+            if current:
+                out.append(current)
+                current = None
+            comment.append(line)
+        elif not line.strip():
+            if current:
+                out.append(current)
+                current = None
+        elif line[0] not in " \t":
+            if current and continues(current[1][0], line):
+                current[1].append(line)
+            else:
+                if current:
+                    out.append(current)
+                current = (comment, [line])
+                comment = []
+        elif current:
+            current[1].append(line)
+    if current:
+        out.append(current)
+    if comment:
+        out.append((comment, []))
+    return out
+
+
+def continues(head, line):
+    """Is `line` an equation or an `unfolding` line of the item that `head` begins?"""
+    if head.startswith("use "):
+        return False
+    if line.startswith("unfolding"):
+        return True
+    m = re.match(r"^(?:abbrev |unfoldable |pub )*(\S+)", head)
+    first = line.split()[0] if line.split() else ""
+    return bool(m) and first == m.group(1) and not re.match(r"^\S+\s+:", line)
+
+
+class Turned:
+    def __init__(self, f, name):
+        self.f, self.name, self.used, self.looks = f, name, set(), []
+
+    def body(self, text, var, place, goal, helpers):
+        """Rewrites the paths from `var`, which stands at `place`; `goal` is the goal's new name, or None in a helper."""
+        f, env = self.f, {var: place}
+
+        def rewrite(chunk):
+            def one(m):
+                if m.group(1) not in env:
+                    return m.group(0)
+                words = [w for w in m.group(2).split(".") if w]
+                got = f.resolve(place, env[m.group(1)], words)
+                if got is None:
+                    self.looks.append(m.group(0))
+                    return m.group(0)
+                if got[0] == "path":
+                    return var + "." + ".".join(got[1])
+                before = re.search(rf"({NAME})\s+$", chunk[: m.start()])
+                at = got[1]
+                if before and before.group(1) in helpers:
+                    at = helpers[before.group(1)]
+                if at is None:
+                    self.looks.append("a place: " + m.group(0))
+                    return m.group(0)
+                if goal:
+                    return f"(goal.at.{goal} {var}).{f.fresh[at]}"
+                return var + ".before" * f.up(place, at)
+
+            return PATH.sub(one, chunk)
+
+        lets = re.compile(rf"let ({NAME}) = ({NAME})((?:\.[\w'-]+)*) in(\s*)")
+        out, pos = [], 0
+        while True:
+            m = lets.search(text, pos)
+            if not m:
+                out.append(rewrite(text[pos:]))
+                break
+            if m.group(2) in env:
+                got = f.resolve(place, env[m.group(2)], [w for w in m.group(3).split(".") if w])
+                if got and got[0] == "place":
+                    out.append(rewrite(text[pos : m.start()]))
+                    env[m.group(1)] = got[1]
+                    pos = m.end()
+                    continue
+            out.append(rewrite(text[pos : m.end()]))
+            pos = m.end()
+            if m.group(1) in env and m.group(1) != var:
+                del env[m.group(1)]
+        return "".join(out)
+
+
+def dedash(text, names):
+    return re.sub(r'[^\s(){}.;,@"«»]+', lambda m: names.get(m.group(0), m.group(0)), text)
+
+
+def turn(path, f, module, crate):
+    text = open(path, encoding="utf-8").read()
+    uses, invariants, answers, looks = [], [], [], []
+    helpers = {}
+    all_items = items(text)
+    head = []
+    turned = Turned(f, path)
+    local = {}
+    for comment, lines in all_items:
+        if lines and not lines[0].startswith("use "):
+            m = re.match(r"^(?:abbrev |unfoldable |pub )*(\S+)", lines[0])
+            if m and "-" in m.group(1) and not re.search(r": tie\.", lines[0]):
+                local[m.group(1)] = m.group(1).replace("-", "_")
+    goals = set()
+    first = True
+    for comment, lines in all_items:
+        if not lines:
+            continue
+        if lines[0].startswith("use "):
+            if first and comment:
+                head = comment
+            first = False
+            u = "\n".join(lines)
+            if not re.search(r"\.(Statement|Tie)\b", u):
+                uses.append(u)
+            continue
+        if first and comment:
+            head, comment = comment, []
+        first = False
+        m = re.match(r"^(?:abbrev |unfoldable |pub )*(\S+)\s*:\s*(.*)$", lines[0])
+        if not m:
+            looks.append("item " + lines[0])
+            continue
+        name, typed = m.group(1), m.group(2)
+        k = 1
+        while k < len(lines) and lines[k].startswith(" "):
+            typed += "\n" + lines[k]
+            k += 1
+        unfolding = [l for l in lines[k:] if l.startswith("unfolding")]
+        equations = [l for l in lines[k:] if not l.startswith("unfolding")]
+        if name.endswith("-spec") or name.endswith("_spec"):
+            continue
+        im = re.match(r"^tie\.(invariant|decreases)-(\S+)$", typed.strip())
+        if im:
+            loop = [i for i, l in enumerate(f.loops) if l[0][0] == im.group(2)]
+            if not loop:
+                looks.append("no loop " + typed)
+                continue
+            (old, new), vs = f.loops[loop[0]]
+            changed = f.changed[loop[0]]
+            body = "\n".join(equations)
+            bm = re.match(r"^(\S+)((?:\s+[^\s=]+)*)\s*=(\s*)(.*)$", body, re.S)
+            args = bm.group(2).split()
+            want = [("l.initial." if c else "l.") + v for v, c in zip(vs, changed)] + ["l." + v for v, c in zip(vs, changed) if c]
+            if len(args) != len(want):
+                looks.append(f"{im.group(1)}-{new}: arguments {args} against {want}")
+            to = dict(zip(args, want))
+            rest = PATH.sub(lambda w: (to[w.group(1)] + w.group(2)) if w.group(1) in to else w.group(0), bm.group(4))
+            new_name = f"{im.group(1)}-{new}"
+            block = comment + [f"abbrev pub {new_name} : goal.{new_name}"] + unfolding + [f"{new_name} l ={bm.group(3)}{rest}"]
+            invariants.append("\n".join(block))
+            continue
+        nm = re.match(r"^tie\.Need-(\S+)", typed.strip())
+        if nm:
+            new = f.need(nm.group(1))
+            body = "\n".join(equations)
+            bm = re.match(r"^(\S+)((?:\s+[^\s=]+)*)\s*=(\s*)(.*)$", body, re.S)
+            if new is None:
+                if not re.fullmatch(r"\s*search rules\s*", bm.group(3)):
+                    looks.append(f"no goal now for {nm.group(1)}: {bm.group(4).strip()[:200]}")
+                continue
+            if re.fullmatch(r"\s*search rules\s*", bm.group(3)):
+                continue
+            args = bm.group(2).split()
+            var = args[0] if args else "c"
+            t = Turned(f, path)
+            rest = t.body(bm.group(4), var, f.at[new], new, helpers)
+            for extra in args[1:]:
+                if re.search(rf"(?<![\w'.-]){re.escape(extra)}(?![\w'-])", rest):
+                    looks.append(f"{new}: argument {extra} is used")
+            looks += [f"{new}: {w}" for w in t.looks]
+            if new in goals:
+                looks.append(f"{new}: twice")
+            goals.add(new)
+            rest = dedash(rest, local)
+            block = comment + [f"pub {new} : goal.{new}"] + unfolding + [f"{new} {var} ={bm.group(3)}{rest}"]
+            answers.append("\n".join(block))
+            continue
+        # a lemma of the file's own
+        body = "\n".join(lines)
+        hm = re.search(rf"\(({NAME}) : tie\.([\w-]+)(?: invariant-loop\w*| decreases-loop\w*)*\)", body)
+        if hm:
+            place = f.by_norm.get(norm(hm.group(2)))
+            if not place:
+                looks.append(f"helper {name}: no place {hm.group(2)}")
+            else:
+                t = Turned(f, path)
+                fresh = f.fresh[place]
+                turned.used.add(fresh)
+                pre, post = body[: hm.start()], body[hm.end() :]
+                helpers[name] = place
+                post = t.body(post, hm.group(1), place, None, helpers)
+                body = pre + f"({hm.group(1)} : {fresh})" + post
+                looks += [f"helper {name}: {w}" for w in t.looks]
+        body = re.sub(r"tie\.([\w-]+)", lambda w: w.group(0), body)
+        if "tie." in body:
+            looks.append(f"helper {name}: tie.")
+        body = dedash(body, local)
+        answers.append("\n".join(comment + [body]))
+    folder = os.path.dirname(path)
+    goalpath = "Rattle." + crate + ".proofs." + os.path.relpath(folder, f"crates/{crate}/proofs").replace("/", ".")
+    if invariants:
+        with open(folder + "/Invariants.antt", "w", encoding="utf-8") as o:
+            o.write("\n".join(head + uses + [f"use {goalpath}.Given as goal", ""]) + "\n" + "\n\n".join(invariants) + "\n")
+    if answers:
+        places = [f"use {goalpath}.Goals.{{{', '.join(sorted(turned.used))}}}"] if turned.used else []
+        with open(folder + "/Answers.antt", "w", encoding="utf-8") as o:
+            o.write("\n".join((head if not invariants else []) + uses + [f"use {goalpath}.Goals as goal"] + places + [""]) + "\n" + "\n\n".join(answers) + "\n")
+    os.remove(path)
+    for l in looks:
+        print(f"look: {path}: {l}")
+
+
+def main(argv):
+    names = argv[0]
+    for crate in argv[1:]:
+        d = json.load(open(f"{names}/crates/{crate}/names.json"))
+        for path in sorted(glob.glob(f"crates/{crate}/proofs/**/Proof.antt", recursive=True)):
+            module = os.path.relpath(os.path.dirname(path), f"crates/{crate}/proofs").replace("/", ".")
+            key = f"Rattle-{crate}-proofs.{module}.Lts"
+            if key not in d:
+                print(f"look: {path}: no names ({key})")
+                continue
+            if "Tie as tie" not in open(path, encoding="utf-8").read():
+                print(f"look: {path}: walks by hand")
+                continue
+            turn(path, Function(d[key]), module, crate)
+
+
+if __name__ == "__main__":
+    main(sys.argv[1:])
