@@ -19,7 +19,7 @@ PATH = re.compile(rf"(?<![\w'.◌-])({NAME})((?:\.[\w'-]+)*)")
 
 
 def norm(name):
-    return re.sub(r"-(\d+)$", r"\1", name.replace("_", "-"))
+    return re.sub(r"-(\d+)$", r"\1", re.sub(r"_lem$", "", name).replace("_", "-").lower())
 
 
 class Function:
@@ -30,6 +30,9 @@ class Function:
         self.parent = {p[0]: p[1] for p in d["places"]}
         self.step = {p[0]: p[2] for p in d["places"]}
         self.fresh = dict(zip(self.places, d["places_by_name"]))
+        self.callee = {p[0]: p[3] for p in d["places"]}
+        self.fields = {p[0]: dict(p[4]) for p in d["places"]}
+        self.params = d["params"]
         self.arms = dict(zip(self.places, d["arms"]))
         self.clauses = dict(zip(self.places, d["clauses"]))
         self.typed = dict(zip(self.places, d["typed"]))
@@ -80,12 +83,14 @@ class Function:
         if arm:
             for field, step, path in arm[2]:
                 if norm(step) == norm(words[0]) and words[1 : 1 + len(path)] == path:
-                    if field == arm[0] + "-own":
-                        return ("path", [field] + words[1:])
                     return ("path", [arm[0], field] + words[1 + len(path) :])
+            if any(norm(step) == norm(words[0]) for _, step, _ in arm[2]):
+                return None
         if new is None:
             return None
         rest = words[1:]
+        if rest and rest[0] in self.fields[at]:
+            rest = [self.fields[at][rest[0]]] + rest[1:]
         if len(rest) > 1 and rest[0] == "ensures" and rest[1].isdigit() and self.clauses.get(at):
             labels = self.clauses[at]
             try:
@@ -94,6 +99,15 @@ class Function:
                     rest = [rest[0], label] + rest[2:]
             except (IndexError, TypeError, KeyError):
                 pass
+        if len(rest) > 1 and rest[0] in ("new", "auto") and self.callee[at] in self.params:
+            k, i = 0, 1
+            while i < len(rest) and rest[i] == "1":
+                k, i = k + 1, i + 1
+            if i < len(rest) and rest[i] == "0":
+                i += 1
+            names = self.params[self.callee[at]]
+            if rest[0] == "new" and k < len(names):
+                rest = ["new", names[k]] + rest[i:]
         return ("path", [new] + rest)
 
     def up(self, place, above):
@@ -117,6 +131,8 @@ def items(text):
             if current:
                 out.append(current)
                 current = None
+        elif current and line[0] in ")]}":
+            current[1].append(line)
         elif line[0] not in " \t":
             if current and continues(current[1][0], line):
                 current[1].append(line)
@@ -151,16 +167,27 @@ class Turned:
 
     def body(self, text, var, place, goal, helpers):
         """Rewrites the paths from `var`, which stands at `place`; `goal` is the goal's new name, or None in a helper."""
-        f, env = self.f, {var: place}
+        f, env = self.f, {var: (place, [])}
+        kept = set()
+
+        def words_of(m):
+            at, words = env[m.group(1)]
+            return at, words + [w for w in m.group(2).split(".") if w]
 
         def rewrite(chunk):
             def one(m):
-                if m.group(1) not in env:
+                name = m.group(1)
+                if name not in env:
                     return m.group(0)
-                words = [w for w in m.group(2).split(".") if w]
-                got = f.resolve(place, env[m.group(1)], words)
+                at, words = words_of(m)
+                got = f.resolve(place, at, words)
+                if name in kept:
+                    mine = f.resolve(place, *env[name])
+                    if got and got[1] != mine[1] + [w for w in m.group(2).split(".") if w]:
+                        return var + "." + ".".join(got[1])
+                    return m.group(0)
                 if got is None:
-                    self.looks.append(m.group(0))
+                    self.looks.append(m.group(0) + " = " + ".".join(w for w in words if w != "before"))
                     return m.group(0)
                 if got[0] == "path":
                     return var + "." + ".".join(got[1])
@@ -184,18 +211,34 @@ class Turned:
             if not m:
                 out.append(rewrite(text[pos:]))
                 break
+            name = m.group(1)
             if m.group(2) in env:
-                got = f.resolve(place, env[m.group(2)], [w for w in m.group(3).split(".") if w])
-                if got and got[0] == "place":
+                at, words = env[m.group(2)]
+                words = words + [w for w in m.group(3).split(".") if w]
+                got = f.resolve(place, at, words)
+                if got is None or got[0] == "place":
                     out.append(rewrite(text[pos : m.start()]))
-                    env[m.group(1)] = got[1]
+                    env[name] = (got[1], []) if got else (at, words)
+                    kept.discard(name)
                     pos = m.end()
                     continue
+                out.append(rewrite(text[pos : m.end()]))
+                env[name] = (at, words)
+                kept.add(name)
+                pos = m.end()
+                continue
             out.append(rewrite(text[pos : m.end()]))
             pos = m.end()
-            if m.group(1) in env and m.group(1) != var:
-                del env[m.group(1)]
-        return "".join(out)
+            if name in env and name != var:
+                del env[name]
+                kept.discard(name)
+        return simpler("".join(out))
+
+
+def simpler(text):
+    """Tests say what they say without `not`."""
+    text = re.sub(rf"\(not-true _ ({NAME}(?:\.[\w'-]+)*)\.true-raw\)|not-true _ ({NAME}(?:\.[\w'-]+)*)\.true-raw", lambda m: (m.group(1) or m.group(2)) + ".true", text)
+    return re.sub(rf"\(not-false _ ({NAME}(?:\.[\w'-]+)*)\.false-raw\)|not-false _ ({NAME}(?:\.[\w'-]+)*)\.false-raw", lambda m: (m.group(1) or m.group(2)) + ".false", text)
 
 
 def dedash(text, names):
@@ -213,7 +256,7 @@ def turn(path, f, module, crate):
     for comment, lines in all_items:
         if lines and not lines[0].startswith("use "):
             m = re.match(r"^(?:abbrev |unfoldable |pub )*(\S+)", lines[0])
-            if m and "-" in m.group(1) and not re.search(r": tie\.", lines[0]):
+            if m and "-" in m.group(1) and not re.match(r"^(?:abbrev |pub )*\S+\s*: tie\.(Need-|invariant-|decreases-)", lines[0]):
                 local[m.group(1)] = m.group(1).replace("-", "_")
     goals = set()
     first = True
@@ -231,6 +274,9 @@ def turn(path, f, module, crate):
         if first and comment:
             head, comment = comment, []
         first = False
+        if re.match(r"^(pub )?(record|data) ", lines[0]):
+            answers.append(dedash("\n".join(comment + lines), local))
+            continue
         m = re.match(r"^(?:abbrev |unfoldable |pub )*(\S+)\s*:\s*(.*)$", lines[0])
         if not m:
             looks.append("item " + lines[0])
@@ -270,10 +316,10 @@ def turn(path, f, module, crate):
             body = "\n".join(equations)
             bm = re.match(r"^(\S+)((?:\s+[^\s=]+)*)\s*=(\s*)(.*)$", body, re.S)
             if new is None:
-                if not re.fullmatch(r"\s*search rules\s*", bm.group(3)):
+                if not re.fullmatch(r"\s*search rules\s*", bm.group(4)):
                     looks.append(f"no goal now for {nm.group(1)}: {bm.group(4).strip()[:200]}")
                 continue
-            if re.fullmatch(r"\s*search rules\s*", bm.group(3)):
+            if re.fullmatch(r"\s*search rules\s*", bm.group(4)):
                 continue
             args = bm.group(2).split()
             var = args[0] if args else "c"
@@ -292,21 +338,32 @@ def turn(path, f, module, crate):
             continue
         # a lemma of the file's own
         body = "\n".join(lines)
-        hm = re.search(rf"\(({NAME}) : tie\.([\w-]+)(?: invariant-loop\w*| decreases-loop\w*)*\)", body)
+        ARGS = r"(?: invariant-loop\w*| decreases-loop\w*)*"
+        places = re.findall(rf"tie\.([\w-]+)", body)
+        hm = re.search(rf"\(({NAME}) : tie\.([\w-]+){ARGS}\)|: tie\.([\w-]+){ARGS} →", body)
         if hm:
-            place = f.by_norm.get(norm(hm.group(2)))
+            place = f.by_norm.get(norm(hm.group(2) or hm.group(3)))
+            eq = re.search(rf"^{re.escape(name)} ({NAME})", body[hm.end() :], re.M)
             if not place:
-                looks.append(f"helper {name}: no place {hm.group(2)}")
-            else:
-                t = Turned(f, path)
-                fresh = f.fresh[place]
-                turned.used.add(fresh)
-                pre, post = body[: hm.start()], body[hm.end() :]
+                looks.append(f"helper {name}: no place {hm.group(0)}")
+            elif eq:
                 helpers[name] = place
-                post = t.body(post, hm.group(1), place, None, helpers)
-                body = pre + f"({hm.group(1)} : {fresh})" + post
+                cut = hm.end() + eq.start()
+                t = Turned(f, path)
+                signature = body[:cut]
+                if hm.group(1):
+                    signature = body[: hm.end()] + t.body(body[hm.end() : cut], hm.group(1), place, None, helpers)
+                body = signature + t.body(body[cut:], eq.group(1), place, None, helpers)
                 looks += [f"helper {name}: {w}" for w in t.looks]
-        body = re.sub(r"tie\.([\w-]+)", lambda w: w.group(0), body)
+
+        def fresh_place(m):
+            at = f.by_norm.get(norm(m.group(1)))
+            if not at:
+                return m.group(0)
+            turned.used.add(f.fresh[at])
+            return f.fresh[at]
+
+        body = re.sub(rf"tie\.([\w-]+){ARGS}", fresh_place, body)
         if "tie." in body:
             looks.append(f"helper {name}: tie.")
         body = dedash(body, local)

@@ -3,7 +3,7 @@
 
 usage: python3 tools/respell.py [--list]      at the top, once, after /opt/rattle/port/port.py; --list only prints 'old new'
 
-What turns: names declared in crates/*/specs/ and in the lemma files crates/*/proofs/*.antt, with their fields and constructors.
+What turns: names declared in crates/*/specs/ and in the lemma files crates/*/proofs/*.antt, with their fields, constructors and parts.
   heldBy -> held_by      withinCeilings : .. -> Type 0 -> WithinCeilings      parse-image -> parse_image
 A lemma whose plain name would be another's gets _lem behind it. A name that a file imports from a library stays in that file.
 Names of functions, parameters, exported C names, strings, inputs and outputs stay. Files: *.antt, *.rt (camel case: the clauses and the
@@ -16,7 +16,7 @@ import re
 import sys
 
 HEAD = re.compile(r"^((?:(?:unfoldable|abbrev|pub)\s+)*)(?:(record|data)\s+)?([^\s(){}:;,.=]+)(?:\s+([({].*?))?\s*:\s*(.*)$")
-FIELD = re.compile(r"^\s+(?:pub\s+)?([^\s(){}:;,.=|]+)\s*:\s")
+FIELD = re.compile(r"^\s+(?:(?:abbrev|unfoldable|pub)\s+)*([^\s(){}:;,.=|]+)\s*:\s")
 TOKEN = re.compile(r'[^\s(){}.;,@"«»`]+')
 NO_NAMES = ("infix", "infixl", "infixr", "use", "mod", "unfolding", "where", "let", "--")
 # Local names in camel case: of a `where`, a `let`, an import's `as`.
@@ -38,10 +38,10 @@ def declared(path):
                         break
                     typed += " " + more.strip()
                 yield m.group(3), typed.strip(), False
-        elif inside:
+        else:
             m = FIELD.match(line)
             if m and m.group(1) not in NO_NAMES:
-                yield m.group(1), "", True
+                yield m.group(1), "", inside
 
 
 def is_camel(name):

@@ -25,16 +25,16 @@ use Rattle.actor.specs.Actor.{share_here, free_in, unmet_in, room_at}
 
 module _ (m : List ℕ) (o : Octets m) (w : well_formed m ≡ true) (ca i first h : ℕ) (e : seat_at m ca ≡ Here i first h) where
   -- The station's octets are its share.
-  pub station-share : share_here m i ≡ share_of (seat_law m ca i first h o w e).seat.s
-  station-share =
+  pub station_share : share_here m i ≡ share_of (seat_law m ca i first h o w e).seat.s
+  station_share =
       let d = (seat_law m ca i first h o w e).seat in
       let x : i ≡ 0 + length d.found.before = d.index in
       let n : i ≡ length d.found.before = omega arith in
       ap (share_here m) n ∙ share_law m ca d.s d.found
 
   -- Free and unmet are the table's.
-  pub free-is : free_in m ≡ (table_of m).capacity - total held (table_of m).stations
-  free-is = let l = (holds m o w).1 in let a = l.is_k in let b = l.is_n in ap₂ (λ (x y : ℕ). x - y) a b
+  pub free_is : free_in m ≡ (table_of m).capacity - total held (table_of m).stations
+  free_is = let l = (holds m o w).1 in let a = l.is_k in let b = l.is_n in ap₂ (λ (x y : ℕ). x - y) a b
 
   pub unmet_is : unmet_in m ≡ total unmet (table_of m).stations
   unfolding table_of
@@ -46,6 +46,6 @@ module _ (m : List ℕ) (o : Octets m) (w : well_formed m ≡ true) (ca i first 
   room_law =
       let z = seat_law m ca i first h o w e in
       let ss : List Station = (table_of m).stations in
-      let f : free_in m ≡ free_of (table_of m).capacity (map share_of ss) = free-is ∙ ap (λ (n : ℕ). (table_of m).capacity - n) (sym (total_held ss)) in
+      let f : free_in m ≡ free_of (table_of m).capacity (map share_of ss) = free_is ∙ ap (λ (n : ℕ). (table_of m).capacity - n) (sym (total_held ss)) in
       let u : unmet_in m ≡ total unmet_of (map share_of ss) = unmet_is ∙ sym (total_unmet ss) in
-      (λ j. admission_outcome (admission_of (station-share j) (f j) (u j))) ∙ ap (room_fault (table_of m)) (sym z.seat.is_station)
+      (λ j. admission_outcome (admission_of (station_share j) (f j) (u j))) ∙ ap (room_fault (table_of m)) (sym z.seat.is_station)

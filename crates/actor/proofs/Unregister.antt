@@ -21,48 +21,48 @@ use Rattle.remove.proofs.Entry.{take_out_law, take_all_out_law}
 use Rattle.registry.specs.Effect.{Effect, refused}
 use Rattle.registry.specs.Registry.{is_registered, unregistering, unregistering_all, no_share, share_in, share_from, share_on}
 use Rattle.replies.specs.Replies.{Replies, placeless}
-use Rattle.replies.proofs.Ways.{refused-by, done-by}
+use Rattle.replies.proofs.Ways.{refused_by, done_by}
 use Rattle.actor.specs.Actor.{station_share_at}
-use Rattle.actor.proofs.Rooms.{station-share, free-is, unmet_is}
+use Rattle.actor.proofs.Rooms.{station_share, free_is, unmet_is}
 
 module _ (m : List ℕ) (w : well_formed m ≡ true) (ca ioa : ℕ) where
   not_registered : is_registered ioa (station_of ca (table_of m).stations) ≡ false → unregistering ca ioa (table_of m) ≡ refused NotRegistered 0 (table_of m)
   unfolding unregistering
   not_registered e = simp e
 
-  out-refused : is_registered ioa (station_of ca (table_of m).stations) ≡ false → Replies (unregistering ca ioa) m (placeless NotRegistered) m
-  out-refused e =
+  out_refused : is_registered ioa (station_of ca (table_of m).stations) ≡ false → Replies (unregistering ca ioa) m (placeless NotRegistered) m
+  out_refused e =
       let u = not_registered e in
-      refused-by (unregistering ca ioa) m w NotRegistered (ap (λ (x : Effect). x.outcome) u) (ap (λ (x : Effect). x.place) u) refl
+      refused_by (unregistering ca ioa) m w NotRegistered (ap (λ (x : Effect). x.outcome) u) (ap (λ (x : Effect). x.place) u) refl
 
   -- The plan has no such station: 18.
-  pub out-absent : seat_at m ca ≡ NotPlanned → Replies (unregistering ca ioa) m (placeless NotRegistered) m
+  pub out_absent : seat_at m ca ≡ NotPlanned → Replies (unregistering ca ioa) m (placeless NotRegistered) m
   unfolding is_registered
-  out-absent e = out-refused (ap (is_registered ioa) (absent_law m ca e))
+  out_absent e = out_refused (ap (is_registered ioa) (absent_law m ca e))
 
   module _ (o : Octets m) (i first h : ℕ) (e : seat_at m ca ≡ Here i first h) where
     -- The station has no such point: 18.
-    pub out-missing : (at : ℕ) → find_at m first h ioa ≡ Missing at → Replies (unregistering ca ioa) m (placeless NotRegistered) m
+    pub out_missing : (at : ℕ) → find_at m first h ioa ≡ Missing at → Replies (unregistering ca ioa) m (placeless NotRegistered) m
     unfolding is_registered
-    out-missing at p =
+    out_missing at p =
         let z = seat_law m ca i first h o w e in
         let k : known ioa z.seat.s.points ≡ false = ap (known ioa) (sym z.points) ∙ (missing_law m first h ioa at (rw z.points z.rises) p).not_known in
-        out-refused (ap (is_registered ioa) z.seat.is_station ∙ k)
+        out_refused (ap (is_registered ioa) z.seat.is_station ∙ k)
 
     -- Done: the point is gone.
-    pub out-done : (at : ℕ) → find_at m first h ioa ≡ Held at → Replies (unregistering ca ioa) m (placeless Done) (taken_out m i h at)
+    pub out_done : (at : ℕ) → find_at m first h ioa ≡ Held at → Replies (unregistering ca ioa) m (placeless Done) (taken_out m i h at)
     unfolding unregistering is_registered
-    out-done at p =
+    out_done at p =
         let z = take_out_law m ca ioa i first h at o w e p in
         let k : is_registered ioa (station_of ca (table_of m).stations) ≡ true = ap (is_registered ioa) z.is_station ∙ z.is_known in
-        done-by (unregistering ca ioa) m w 0 _ (simp k) (simp k) (z.memory ∙ sym (simp k))
+        done_by (unregistering ca ioa) m w 0 _ (simp k) (simp k) (z.memory ∙ sym (simp k))
 
 -- Done: all points are gone, and their number is given back.
 pub all_done : (m : List ℕ) → Octets m → well_formed m ≡ true → Replies unregistering_all m (record { outcome = Done; place = points_in m }) (all_taken_out m)
 unfolding unregistering_all
 all_done m o w =
     let z = take_all_out_law m o w in
-    done-by unregistering_all m w (points_in m) _ refl (sym z.count) z.memory
+    done_by unregistering_all m w (points_in m) _ refl (sym z.count) z.memory
 
 -- ---- a station's share
 
@@ -71,16 +71,16 @@ unfolding share_from
 share_no_table m ca w = sym (ap (share_from ca) (parse_none m w))
 
 module _ (m : List ℕ) (w : well_formed m ≡ true) (ca : ℕ) where
-  pub share-absent : seat_at m ca ≡ NotPlanned → no_share StationNotPlanned ≡ share_on ca m
+  pub share_absent : seat_at m ca ≡ NotPlanned → no_share StationNotPlanned ≡ share_on ca m
   unfolding share_from share_in
-  share-absent e = sym (ap (share_from ca) (parse_some m w) ∙ ap (share_in (table_of m)) (absent_law m ca e))
+  share_absent e = sym (ap (share_from ca) (parse_some m w) ∙ ap (share_in (table_of m)) (absent_law m ca e))
 
-  pub share-found : (o : Octets m) (i first h : ℕ) → seat_at m ca ≡ Here i first h → station_share_at m i ≡ share_on ca m
+  pub share_found : (o : Octets m) (i first h : ℕ) → seat_at m ca ≡ Here i first h → station_share_at m i ≡ share_on ca m
   unfolding station_share_at share_from share_in
-  share-found o i first h e =
+  share_found o i first h e =
       let z = seat_law m ca i first h o w e in
-      let s = station-share m o w ca i first h e in
-      let f = free-is m o w ca i first h e in
+      let s = station_share m o w ca i first h e in
+      let f = free_is m o w ca i first h e in
       let u = unmet_is m o w ca i first h e in
       (λ j. record { outcome = Done; reservation = (s j).reservation; ceiling = (s j).ceiling; held = (s j).held; free = f j; unmet = u j })
       ∙ sym (ap (share_from ca) (parse_some m w) ∙ ap (share_in (table_of m)) z.seat.is_station)

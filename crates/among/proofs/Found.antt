@@ -17,11 +17,11 @@ use Rattle.among.specs.Fold.{Both, pick, same_address, looked, stepped, folded, 
 pub same_memory : (m : List ℕ) (s : Search) (ps : List Request) → (folded m s ps).memory ≡ m
 unfolding folded stepped
 same_memory m s [] = refl
-same_memory m s (p ∷ ps) = by-test s.done (same_memory m (looked s p) ps)
+same_memory m s (p ∷ ps) = by_test s.done (same_memory m (looked s p) ps)
   where
-    by-test : (b : Bool) → (folded m (looked s p) ps).memory ≡ m → (pick b (record { memory = m; state = s }) (folded m (looked s p) ps)).memory ≡ m
-    by-test true ih = refl
-    by-test false ih = ih
+    by_test : (b : Bool) → (folded m (looked s p) ps).memory ≡ m → (pick b (record { memory = m; state = s }) (folded m (looked s p) ps)).memory ≡ m
+    by_test true ih = refl
+    by_test false ih = ih
 
 -- a search that is done stays as it is
 ended : (m : List ℕ) (s : Search) (ps : List Request) → s.done ≡ true → folded m s ps ≡ record { memory = m; state = s }
@@ -38,13 +38,13 @@ pub found_law : (m : List ℕ) (q : Request) (left : ℕ) (ps : List Request) �
 unfolding folded stepped looked same_address stands_in
 found_law m q left [] = sym (ap (stands_in q) (take_none left))
 found_law m q zero (p ∷ ps) = ap (λ (z : Both). z.state.found) (ended m (record { ca = q.ca; ioa = q.ioa; left = 0; found = false; done = true }) ps refl)
-found_law m q (suc n) (p ∷ ps) = ap (λ (b : Bool). (folded m (pick b none_left one-looked) ps).state.found) more ∙ by-test (eqb p.ca q.ca & eqb p.ioa q.ioa) (found_law m q n ps)
+found_law m q (suc n) (p ∷ ps) = ap (λ (b : Bool). (folded m (pick b none_left one_looked) ps).state.found) more ∙ by_test (eqb p.ca q.ca & eqb p.ioa q.ioa) (found_law m q n ps)
   where
     none_left : Search
     none_left = record { ca = q.ca; ioa = q.ioa; left = suc n; found = false; done = true }
 
-    one-looked : Search
-    one-looked = pick (eqb p.ca q.ca & eqb p.ioa q.ioa) (record { ca = q.ca; ioa = q.ioa; left = suc n; found = true; done = true }) (searching q (suc n - 1))
+    one_looked : Search
+    one_looked = pick (eqb p.ca q.ca & eqb p.ioa q.ioa) (record { ca = q.ca; ioa = q.ioa; left = suc n; found = true; done = true }) (searching q (suc n - 1))
 
     more : eqb (suc n) 0 ≡ false
     more = ne_eqb (suc n) 0 (λ (e : suc n ≡ 0). absurd (omega arith))
@@ -52,7 +52,7 @@ found_law m q (suc n) (p ∷ ps) = ap (λ (b : Bool). (folded m (pick b none_lef
     one_less : suc n - 1 ≡ n
     one_less = omega arith
 
-    by-test : (b : Bool) → (folded m (searching q n) ps).state.found ≡ stands_in q (take n ps)
+    by_test : (b : Bool) → (folded m (searching q n) ps).state.found ≡ stands_in q (take n ps)
         → (folded m (pick b (record { ca = q.ca; ioa = q.ioa; left = suc n; found = true; done = true }) (searching q (suc n - 1))) ps).state.found ≡ pick b true (stands_in q (take n ps))
-    by-test true ih = ap (λ (z : Both). z.state.found) (ended m (record { ca = q.ca; ioa = q.ioa; left = suc n; found = true; done = true }) ps refl)
-    by-test false ih = ap (λ (k : ℕ). (folded m (searching q k) ps).state.found) one_less ∙ ih
+    by_test true ih = ap (λ (z : Both). z.state.found) (ended m (record { ca = q.ca; ioa = q.ioa; left = suc n; found = true; done = true }) ps refl)
+    by_test false ih = ap (λ (k : ℕ). (folded m (searching q k) ps).state.found) one_less ∙ ih

@@ -34,22 +34,22 @@ front_is m xs = ap (λ (n : ℕ). wire xs ++ drop n m) (zero-add (size xs))
 
 module _ (X : List Asdu) (m : List ℕ) where
   -- It does not fit.
-  pub sends-nothing : length m < size X → Sends X m (nothing AnswerShort) m
+  pub sends_nothing : length m < size X → Sends X m (nothing AnswerShort) m
   unfolding sent left
-  sends-nothing h = record { answers = sym (simp (lt-leb _ _ h)); leaves = sym (simp (lt-leb _ _ h)) }
+  sends_nothing h = record { answers = sym (simp (lt-leb _ _ h)); leaves = sym (simp (lt-leb _ _ h)) }
 
   -- It fits.
-  pub sends-all : (n : ℕ) (m' : List ℕ) → size X ≤ length m → n ≡ size X → m' ≡ over m 0 (wire X) → Sends X m (given n) m'
+  pub sends_all : (n : ℕ) (m' : List ℕ) → size X ≤ length m → n ≡ size X → m' ≡ over m 0 (wire X) → Sends X m (given n) m'
   unfolding sent left
-  sends-all n m' h e f = record { answers = ap given e ∙ sym (simp (le-leb _ _ h)); leaves = f ∙ front_is m X ∙ sym (simp (le-leb _ _ h)) }
+  sends_all n m' h e f = record { answers = ap given e ∙ sym (simp (le-leb _ _ h)); leaves = f ∙ front_is m X ∙ sym (simp (le-leb _ _ h)) }
 
 -- The same of one ASDU.
 module _ (a : Asdu) (m : List ℕ) where
-  pub one-nothing : length m < length (asdu_octets a) → Sends (a ∷ []) m (nothing AnswerShort) m
-  one-nothing h = sends-nothing (a ∷ []) m (rw (wire_one a) h)
+  pub one_nothing : length m < length (asdu_octets a) → Sends (a ∷ []) m (nothing AnswerShort) m
+  one_nothing h = sends_nothing (a ∷ []) m (rw (wire_one a) h)
 
-  pub one-all : (n : ℕ) (m' : List ℕ) → length (asdu_octets a) ≤ length m → n ≡ length (asdu_octets a) → m' ≡ over m 0 (asdu_octets a) → Sends (a ∷ []) m (given n) m'
-  one-all n m' h e f = sends-all (a ∷ []) m n m' (rw (wire_one a) h) (rw (wire_one a) e) (rw (wire_one a) f)
+  pub one_all : (n : ℕ) (m' : List ℕ) → length (asdu_octets a) ≤ length m → n ≡ length (asdu_octets a) → m' ≡ over m 0 (asdu_octets a) → Sends (a ∷ []) m (given n) m'
+  one_all n m' h e f = sends_all (a ∷ []) m n m' (rw (wire_one a) h) (rw (wire_one a) e) (rw (wire_one a) f)
 
 -- The same of answers that are equal.
 pub sends_along : (X Y : List Asdu) (m m' : List ℕ) (r : Answered) → X ≡ Y → Sends X m r m' → Sends Y m r m'
@@ -65,27 +65,27 @@ ends_no_table f l w =
     record { answers = ap (answered_from f l) (sym p); leaves = ap (lent_from f l) (sym p) }
 
 module _ (f : Table → Said) (l : Lent) (w : well_formed l.table ≡ true) where
-  is-parsed : parse l.table ≡ some (table_of l.table)
-  is-parsed = parse_some l.table w
+  is_parsed : parse l.table ≡ some (table_of l.table)
+  is_parsed = parse_some l.table w
 
   -- A number other than 0, of a table.
-  pub ends-nothing : (o : Outcome) → outcome_with (f (table_of l.table)) l ≡ o → is_done o ≡ false → Leaves as_it_is f l (nothing o) l
+  pub ends_nothing : (o : Outcome) → outcome_with (f (table_of l.table)) l ≡ o → is_done o ≡ false → Leaves as_it_is f l (nothing o) l
   unfolding answered_from lent_from
-  ends-nothing o e d =
+  ends_nothing o e d =
       let d' : is_done (outcome_with (f (table_of l.table)) l) ≡ false = ap is_done e ∙ d in
       let r : answered_from f l (some (table_of l.table)) ≡ nothing o = simp d' (ap nothing e) in
-      record { answers = sym (ap (answered_from f l) is-parsed ∙ r); leaves = sym (ap (lent_from f l) is-parsed ∙ simp d') }
+      record { answers = sym (ap (answered_from f l) is_parsed ∙ r); leaves = sym (ap (lent_from f l) is_parsed ∙ simp d') }
 
   -- A refusal or silence of the command's own.
-  pub ends-refused : (o : Outcome) → (f (table_of l.table)).outcome ≡ o → is_done o ≡ false → Leaves as_it_is f l (nothing o) l
+  pub ends_refused : (o : Outcome) → (f (table_of l.table)).outcome ≡ o → is_done o ≡ false → Leaves as_it_is f l (nothing o) l
   unfolding outcome_with
-  ends-refused o e d = ends-nothing o (let d' : is_done (f (table_of l.table)).outcome ≡ false = ap is_done e ∙ d in simp d' e) d
+  ends_refused o e d = ends_nothing o (let d' : is_done (f (table_of l.table)).outcome ≡ false = ap is_done e ∙ d in simp d' e) d
 
   -- An answer that does not fit: 4.
-  pub ends-short : (f (table_of l.table)).outcome ≡ Done → (f (table_of l.table)).told ≡ [] → length l.answer < size (f (table_of l.table)).answer
+  pub ends_short : (f (table_of l.table)).outcome ≡ Done → (f (table_of l.table)).told ≡ [] → length l.answer < size (f (table_of l.table)).answer
       → Leaves as_it_is f l (nothing AnswerShort) l
   unfolding outcome_with wire joined
-  ends-short e q h = ends-nothing AnswerShort (simp (e, q, le-leb 0 (length l.spontaneous) (omega arith), lt-leb _ _ h)) refl
+  ends_short e q h = ends_nothing AnswerShort (simp (e, q, le-leb 0 (length l.spontaneous) (omega arith), lt-leb _ _ h)) refl
 
   -- the outcome of an answer that fits
   fits_is : (f (table_of l.table)).outcome ≡ Done → (f (table_of l.table)).told ≡ [] → size (f (table_of l.table)).answer ≤ length l.answer
@@ -94,7 +94,7 @@ module _ (f : Table → Said) (l : Lent) (w : well_formed l.table ≡ true) wher
   fits_is e q h = simp (e, q, le-leb 0 (length l.spontaneous) (omega arith), le-leb _ _ h)
 
   -- An answer that fits, n octets of it, from a command that tells nothing.
-  pub ends-done : (n : ℕ) (l' : Lent) → (f (table_of l.table)).outcome ≡ Done → (f (table_of l.table)).told ≡ []
+  pub ends_done : (n : ℕ) (l' : Lent) → (f (table_of l.table)).outcome ≡ Done → (f (table_of l.table)).told ≡ []
       → n ≡ size (f (table_of l.table)).answer → n ≤ length l.answer
       → l' ≡ record {
         table = holding l.table (table_of l.table) (f (table_of l.table)).after;
@@ -104,46 +104,46 @@ module _ (f : Table → Said) (l : Lent) (w : well_formed l.table ≡ true) wher
       }
       → Leaves as_it_is f l (record { outcome = Done; octets = n; spontaneous = 0 }) l'
   unfolding answered_from lent_from wire joined
-  ends-done n l' e q k h s =
+  ends_done n l' e q k h s =
       let d : outcome_with (f (table_of l.table)) l ≡ Done = fits_is e q (omega arith) in
       record {
-        answers = sym (ap (answered_from f l) is-parsed ∙ simp (d, q) (λ j. record { outcome = Done; octets = sym k j; spontaneous = 0 }));
-        leaves = s ∙ sym (ap (lent_from f l) is-parsed ∙ simp (d, q));
+        answers = sym (ap (answered_from f l) is_parsed ∙ simp (d, q) (λ j. record { outcome = Done; octets = sym k j; spontaneous = 0 }));
+        leaves = s ∙ sym (ap (lent_from f l) is_parsed ∙ simp (d, q));
       }
 
   -- An answer X that was written whole or not at all; the table and the clock change only if it was.
-  pub ends-sent : (X : List Asdu) → (f (table_of l.table)).outcome ≡ Done → (f (table_of l.table)).told ≡ [] → (f (table_of l.table)).answer ≡ X
+  pub ends_sent : (X : List Asdu) → (f (table_of l.table)).outcome ≡ Done → (f (table_of l.table)).told ≡ [] → (f (table_of l.table)).answer ≡ X
       → (r : Answered) (table clock answer : List ℕ) → Sends X l.answer r answer
       → table ≡ pick (is_done r.outcome) (holding l.table (table_of l.table) (f (table_of l.table)).after) l.table
       → clock ≡ pick (is_done r.outcome) (f (table_of l.table)).clock l.clock
       → Leaves as_it_is f l r (lent table clock answer l.spontaneous)
   unfolding sent left
-  ends-sent X d q x r table clock answer s et ec = by-test (fits X l.answer) refl s.answers s.leaves
+  ends_sent X d q x r table clock answer s et ec = by_test (fits X l.answer) refl s.answers s.leaves
     where
-      by-test : (b : Bool) → fits X l.answer ≡ b → r ≡ pick b (given (size X)) (nothing AnswerShort) → answer ≡ pick b (fronted X l.answer) l.answer
+      by_test : (b : Bool) → fits X l.answer ≡ b → r ≡ pick b (given (size X)) (nothing AnswerShort) → answer ≡ pick b (fronted X l.answer) l.answer
           → Leaves as_it_is f l r (lent table clock answer l.spontaneous)
-      by-test true e er ea =
+      by_test true e er ea =
           let h : size X ≤ length l.answer = leb-true _ _ e in
           let D : is_done r.outcome ≡ true = ap (λ (y : Answered). is_done y.outcome) er in
           let et' : table ≡ holding l.table (table_of l.table) (f (table_of l.table)).after = simp D at et in
           let ec' : clock ≡ (f (table_of l.table)).clock = simp D at ec in
           let ea' : answer ≡ fronted (f (table_of l.table)).answer l.answer = ea ∙ ap (λ (v : List Asdu). fronted v l.answer) (sym x) in
-          let z = ends-done (size X) (lent table clock answer l.spontaneous) d q (ap size (sym x)) h (λ j. lent (et' j) (ec' j) (ea' j) l.spontaneous) in
+          let z = ends_done (size X) (lent table clock answer l.spontaneous) d q (ap size (sym x)) h (λ j. lent (et' j) (ec' j) (ea' j) l.spontaneous) in
           record { answers = er ∙ z.answers; leaves = z.leaves }
-      by-test false e er ea =
+      by_test false e er ea =
           let h : length l.answer < size X = leb-false _ _ e in
           let D : is_done r.outcome ≡ false = ap (λ (y : Answered). is_done y.outcome) er in
           let et' : table ≡ l.table = simp D at et in
           let ec' : clock ≡ l.clock = simp D at ec in
-          let z = ends-short d q (rw x h) in
+          let z = ends_short d q (rw x h) in
           record { answers = er ∙ z.answers; leaves = (λ j. lent (et' j) (ec' j) (ea j) l.spontaneous) ∙ z.leaves }
 
   -- The same of a command that leaves the table.
-  pub ends-says : Octets l.table → (X : List Asdu) (clock : List ℕ) → f (table_of l.table) ≡ says X (table_of l.table) clock
+  pub ends_says : Octets l.table → (X : List Asdu) (clock : List ℕ) → f (table_of l.table) ≡ says X (table_of l.table) clock
       → (r : Answered) (clock' answer : List ℕ) → Sends X l.answer r answer → clock' ≡ pick (is_done r.outcome) clock l.clock
       → Leaves as_it_is f l r (lent l.table clock' answer l.spontaneous)
-  ends-says o X clock e r clock' answer s ec =
-      ends-sent X (ap (λ (y : Said). y.outcome) e) (ap (λ (y : Said). y.told) e) (ap (λ (y : Said). y.answer) e) r l.table clock' answer s
+  ends_says o X clock e r clock' answer s ec =
+      ends_sent X (ap (λ (y : Said). y.outcome) e) (ap (λ (y : Said). y.told) e) (ap (λ (y : Said). y.answer) e) r l.table clock' answer s
       (still (is_done r.outcome) ∙ ap (λ (u : Table). pick (is_done r.outcome) (holding l.table (table_of l.table) u) l.table) (sym (ap (λ (y : Said). y.after) e)))
       (ec ∙ ap (λ (k : List ℕ). pick (is_done r.outcome) k l.clock) (sym (ap (λ (y : Said). y.clock) e)))
     where
@@ -152,12 +152,12 @@ module _ (f : Table → Said) (l : Lent) (w : well_formed l.table ≡ true) wher
       still false = refl
 
   -- What a call says to the table that is there is all that counts.
-  pub ends-alike : (g : Table → Said) → f (table_of l.table) ≡ g (table_of l.table) → (r : Answered) (l' : Lent)
+  pub ends_alike : (g : Table → Said) → f (table_of l.table) ≡ g (table_of l.table) → (r : Answered) (l' : Lent)
       → Leaves as_it_is f l r l' → Leaves as_it_is g l r l'
   unfolding answered_from lent_from
-  ends-alike g e r l' z =
+  ends_alike g e r l' z =
       let s : Said → Table → Said = λ x _. x in
       record {
-        answers = z.answers ∙ ap (answered_from f l) is-parsed ∙ ap (λ (x : Said). answered_from (s x) l (some (table_of l.table))) e ∙ sym (ap (answered_from g l) is-parsed);
-        leaves = z.leaves ∙ ap (lent_from f l) is-parsed ∙ ap (λ (x : Said). lent_from (s x) l (some (table_of l.table))) e ∙ sym (ap (lent_from g l) is-parsed);
+        answers = z.answers ∙ ap (answered_from f l) is_parsed ∙ ap (λ (x : Said). answered_from (s x) l (some (table_of l.table))) e ∙ sym (ap (answered_from g l) is_parsed);
+        leaves = z.leaves ∙ ap (lent_from f l) is_parsed ∙ ap (λ (x : Said). lent_from (s x) l (some (table_of l.table))) e ∙ sym (ap (lent_from g l) is_parsed);
       }

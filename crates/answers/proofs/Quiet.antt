@@ -16,7 +16,7 @@ use Rattle.table.specs.Change.{station_of, with_points, with_stations, changed, 
 use Rattle.table.proofs.Parse.{Good, good_is, is_good}
 use Rattle.table.proofs.Change.{station_found, station_rises}
 use Rattle.registry.specs.History.{holding_of, Quiet}
-use Rattle.registry.proofs.Gentle.{Gentle, gentle-here, gentle-everywhere}
+use Rattle.registry.proofs.Gentle.{Gentle, gentle_here, gentle_everywhere}
 use Rattle.asdu.specs.Header.{global_address}
 use Rattle.asdu.specs.declared.command.Command.{Command}
 use Rattle.asdu.specs.declared.command.Reading.{Reading}
@@ -54,41 +54,41 @@ pub still_quiet : (f : Table → Said) (l : Lent) → ((t : Table) → Still t (
 unfolding effect_in
 still_quiet f l s =
     record {
-      keeps_good = λ t g. by-test-good t g (is_done (outcome_with (f t) l));
-      keeps_capacity = λ t. by-test-capacity t (is_done (outcome_with (f t) l));
-      keeps_holdings = λ t g. by-test-holdings t g (is_done (outcome_with (f t) l));
+      keeps_good = λ t g. by_test_good t g (is_done (outcome_with (f t) l));
+      keeps_capacity = λ t. by_test_capacity t (is_done (outcome_with (f t) l));
+      keeps_holdings = λ t g. by_test_holdings t g (is_done (outcome_with (f t) l));
     }
   where
-    by-test-good : (t : Table) → good t ≡ true → (b : Bool) → good (pick b (f t).after t) ≡ true
-    by-test-good t g true = is_good _ ((s t).is_good (good_is t g))
-    by-test-good t g false = g
+    by_test_good : (t : Table) → good t ≡ true → (b : Bool) → good (pick b (f t).after t) ≡ true
+    by_test_good t g true = is_good _ ((s t).is_good (good_is t g))
+    by_test_good t g false = g
 
-    by-test-capacity : (t : Table) (b : Bool) → (pick b (f t).after t).capacity ≡ t.capacity
-    by-test-capacity t true = (s t).capacity
-    by-test-capacity t false = refl
+    by_test_capacity : (t : Table) (b : Bool) → (pick b (f t).after t).capacity ≡ t.capacity
+    by_test_capacity t true = (s t).capacity
+    by_test_capacity t false = refl
 
-    by-test-holdings : (t : Table) → good t ≡ true → (b : Bool) → map holding_of (pick b (f t).after t).stations ≡ map holding_of t.stations
-    by-test-holdings t g true = (s t).holdings (good_is t g)
-    by-test-holdings t g false = refl
+    by_test_holdings : (t : Table) → good t ≡ true → (b : Bool) → map holding_of (pick b (f t).after t).stations ≡ map holding_of t.stations
+    by_test_holdings t g true = (s t).holdings (good_is t g)
+    by_test_holdings t g false = refl
 
 -- ---- system commands
 
 still_here : (t : Table) (ca : ℕ) (f : List Point → List Point) → Gentle f → Still t (changed t ca f)
 unfolding changed
-still_here t ca f w = record { capacity = refl; is_good = λ g. (gentle-here f w t ca g).0; holdings = λ g. (gentle-here f w t ca g).1 }
+still_here t ca f w = record { capacity = refl; is_good = λ g. (gentle_here f w t ca g).0; holdings = λ g. (gentle_here f w t ca g).1 }
 
 reset_still : (t : Table) (ca : ℕ) (sel : Selection) → Still t (reset_at t ca sel)
 unfolding reset_at
-reset_still t ca sel = by-test (eqb ca global_address)
+reset_still t ca sel = by_test (eqb ca global_address)
   where
-    by-test : (b : Bool) → Still t (pick b (with_stations (map (with_points (reset_in sel)) t.stations) t) (changed t ca (reset_in sel)))
-    by-test true =
+    by_test : (b : Bool) → Still t (pick b (with_stations (map (with_points (reset_in sel)) t.stations) t) (changed t ca (reset_in sel)))
+    by_test true =
         record {
           capacity = refl;
-          is_good = λ g. (gentle-everywhere (reset_in sel) (reset_gentle sel) t g).0;
-          holdings = λ g. (gentle-everywhere (reset_in sel) (reset_gentle sel) t g).1;
+          is_good = λ g. (gentle_everywhere (reset_in sel) (reset_gentle sel) t g).0;
+          holdings = λ g. (gentle_everywhere (reset_in sel) (reset_gentle sel) t g).1;
         }
-    by-test false = still_here t ca (reset_in sel) (reset_gentle sel)
+    by_test false = still_here t ca (reset_in sel) (reset_gentle sel)
 
 choice_still : (t : Table) (ca : ℕ) (o : Choice) → Still t (reset_by t ca o)
 unfolding reset_by
@@ -97,11 +97,11 @@ choice_still t ca (Selected sel) = reset_still t ca sel
 
 counters_still : (t : Table) (ca q : ℕ) → Still t (after_counters t ca q)
 unfolding after_counters
-counters_still t ca q = by-test (resets q)
+counters_still t ca q = by_test (resets q)
   where
-    by-test : (b : Bool) → Still t (pick b (reset_by t ca (chosen q)) t)
-    by-test true = choice_still t ca (chosen q)
-    by-test false = still_same t
+    by_test : (b : Bool) → Still t (pick b (reset_by t ca (chosen q)) t)
+    by_test true = choice_still t ca (chosen q)
+    by_test false = still_same t
 
 pick_still : (t : Table) (b : Bool) (x y : Said) → Still t x.after → Still t y.after → Still t (pick b x y).after
 pick_still t true x y p q = p
@@ -148,29 +148,29 @@ update_ok : (t : Table) (u : Update) (p : Point) → Good t → length u.value �
 unfolding updated point_in
 update_ok t u p g w e = of_station (station_of u.ca t.stations) refl e
   where
-    of-point : (s : Station) → station_of u.ca t.stations ≡ some s → (o : Option Point) → point_in u.ioa s.points ≡ o → updated u o ≡ some p → Gentle (replace_in p)
-    of-point s f none k e' = let z : ◌≡◌ {A = ℕ} 0 1 = cc in absurd (omega arith)
-    of-point s f (some q) k e' =
+    of_point : (s : Station) → station_of u.ca t.stations ≡ some s → (o : Option Point) → point_in u.ioa s.points ≡ o → updated u o ≡ some p → Gentle (replace_in p)
+    of_point s f none k e' = let z : ◌≡◌ {A = ℕ} 0 1 = cc in absurd (omega arith)
+    of_point s f (some q) k e' =
         let r : rising 0 s.points ≡ true = station_rises t u.ca s g (station_found _ _ _ f) in
         let o = point_in_lem 0 u.ioa s.points q r k in
         replace_gentle p (updated_ok u q p w o.0 e').0
 
     of_station : (o : Option Station) → station_of u.ca t.stations ≡ o → updated u (point_in u.ioa (points_of o)) ≡ some p → Gentle (replace_in p)
     of_station none f e' = let z : ◌≡◌ {A = ℕ} 0 1 = cc in absurd (omega arith)
-    of_station (some s) f e' = of-point s f (point_in u.ioa s.points) refl e'
+    of_station (some s) f e' = of_point s f (point_in u.ioa s.points) refl e'
 
 -- One update leaves a table still.
 pub update_still : (t : Table) (u : Update) → length u.value ≡ 12 → Still t (table_with t u (update_of t u))
 unfolding table_with changed
-update_still t u w = of-update (update_of t u) refl
+update_still t u w = of_update (update_of t u) refl
   where
-    of-update : (o : Option Point) → update_of t u ≡ o → Still t (table_with t u o)
-    of-update none e = still_same t
-    of-update (some p) e =
+    of_update : (o : Option Point) → update_of t u ≡ o → Still t (table_with t u o)
+    of_update none e = still_same t
+    of_update (some p) e =
         record {
           capacity = refl;
-          is_good = λ g. (gentle-here (replace_in p) (update_ok t u p g w e) t u.ca g).0;
-          holdings = λ g. (gentle-here (replace_in p) (update_ok t u p g w e) t u.ca g).1;
+          is_good = λ g. (gentle_here (replace_in p) (update_ok t u p g w e) t u.ca g).0;
+          holdings = λ g. (gentle_here (replace_in p) (update_ok t u p g w e) t u.ca g).1;
         }
 
 updates_still : (t : Table) (us : List Update) → AllWhole us → Still t (table_after t us)
@@ -180,11 +180,11 @@ updates_still t (u ∷ us) w = still_then (update_still t u w.0) (updates_still 
 
 read_whole : (p : Proposal) → AllWhole p.updates → AllWhole (read_updates p)
 unfolding AllWhole
-read_whole p w = by-test p.negative
+read_whole p w = by_test p.negative
   where
-    by-test : (b : Bool) → AllWhole (pick b [] p.updates)
-    by-test true = tt
-    by-test false = w
+    by_test : (b : Bool) → AllWhole (pick b [] p.updates)
+    by_test true = tt
+    by_test false = w
 
 process_still : (clock : List ℕ) (p : Proposal) → AllWhole p.updates → (r : Reading) (t : Table) → Still t (process_from clock p r t).after
 unfolding process_from

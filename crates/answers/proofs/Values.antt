@@ -60,11 +60,11 @@ zeroed_ok p o =
 -- The reset of selected counters is gentle.
 pub reset_gentle : (sel : Selection) → Gentle (reset_in sel)
 unfolding reset_in
-reset_gentle sel = map_gentle (λ p. pick (is_counter p.kind & selects sel p) (zeroed p) p) (λ p. by-test p (is_counter p.kind & selects sel p))
+reset_gentle sel = map_gentle (λ p. pick (is_counter p.kind & selects sel p) (zeroed p) p) (λ p. by_test p (is_counter p.kind & selects sel p))
   where
-    by-test : (p : Point) (b : Bool) → SamePoint p (pick b (zeroed p) p)
-    by-test p true = record { ioa = refl; still_ok = zeroed_ok p }
-    by-test p false = record { ioa = refl; still_ok = λ o. o }
+    by_test : (p : Point) (b : Bool) → SamePoint p (pick b (zeroed p) p)
+    by_test p true = record { ioa = refl; still_ok = zeroed_ok p }
+    by_test p false = record { ioa = refl; still_ok = λ o. o }
 
 -- ---- an updated point
 
@@ -72,20 +72,20 @@ reset_gentle sel = map_gentle (λ p. pick (is_counter p.kind & selects sel p) (z
 pub point_in_lem : (low ioa : ℕ) (ps : List Point) (p : Point) → rising low ps ≡ true → point_in ioa ps ≡ some p → (point_ok p ≡ true) × (p.ioa ≡ ioa)
 unfolding rising point_in
 point_in_lem low ioa [] p r e = let z : ◌≡◌ {A = ℕ} 0 1 = cc in absurd (omega arith)
-point_in_lem low ioa (q ∷ qs) p r e = by-test (λ f. point_in_lem (q.ioa + 1) ioa qs p (both _ _ (both _ _ r).1).1 f) (eqb q.ioa ioa) refl e
+point_in_lem low ioa (q ∷ qs) p r e = by_test (λ f. point_in_lem (q.ioa + 1) ioa qs p (both _ _ (both _ _ r).1).1 f) (eqb q.ioa ioa) refl e
   where
-    by-test : (point_in ioa qs ≡ some p → (point_ok p ≡ true) × (p.ioa ≡ ioa)) → (b : Bool) → eqb q.ioa ioa ≡ b
+    by_test : (point_in ioa qs ≡ some p → (point_ok p ≡ true) × (p.ioa ≡ ioa)) → (b : Bool) → eqb q.ioa ioa ≡ b
         → pick b (some q) (point_in ioa qs) ≡ some p → (point_ok p ≡ true) × (p.ioa ≡ ioa)
-    by-test ih true t f =
+    by_test ih true t f =
         let s : q ≡ p = cc in
         (ap point_ok (sym s) ∙ (both _ _ (both _ _ r).1).0, ap (λ (x : Point). x.ioa) (sym s) ∙ eqb-true _ _ t)
-    by-test ih false t f = ih f
+    by_test ih false t f = ih f
 
 -- An updated point is as described, at the address of the point it was.
 pub updated_ok : (u : Update) (q p : Point) → length u.value ≡ 12 → point_ok q ≡ true → updated u (some q) ≡ some p
     → (point_ok p ≡ true) × (p.ioa ≡ q.ioa)
 unfolding updated point_ok valid
-updated_ok u q p w o e = by-test (eqb q.kind u.kind) e
+updated_ok u q p w o e = by_test (eqb q.kind u.kind) e
   where
     new_ok : point_ok (with_value (element (point_octets q.kind) u.value) q) ≡ true
     new_ok =
@@ -98,19 +98,19 @@ updated_ok u q p w o e = by-test (eqb q.kind u.kind) e
         join o1.0 (join (eq-eqb _ _ (length_element u.value (point_octets q.kind) w (point_at_most q.kind)))
         (join v1.0 (join v2.0 (join v3.0 (join v4.0 (element_zeros u.value (point_octets q.kind) w (point_at_most q.kind)))))))
 
-    by-test : (b : Bool)
+    by_test : (b : Bool)
         → pick b (some (with_value (element (point_octets q.kind) u.value) q)) none ≡ some p
         → (point_ok p ≡ true) × (p.ioa ≡ q.ioa)
-    by-test true f =
+    by_test true f =
         let s : (with_value (element (point_octets q.kind) u.value) q) ≡ p = cc in
         (ap point_ok (sym s) ∙ new_ok, ap (λ (x : Point). x.ioa) (sym s))
-    by-test false f = let z : ◌≡◌ {A = ℕ} 0 1 = cc in absurd (omega arith)
+    by_test false f = let z : ◌≡◌ {A = ℕ} 0 1 = cc in absurd (omega arith)
 
 -- A point put in place of the one at its address is a gentle change.
 pub replace_gentle : (p : Point) → point_ok p ≡ true → Gentle (replace_in p)
 unfolding replace_in
-replace_gentle p o = map_gentle (λ q. pick (eqb q.ioa p.ioa) p q) (λ q. by-test q (eqb q.ioa p.ioa) refl)
+replace_gentle p o = map_gentle (λ q. pick (eqb q.ioa p.ioa) p q) (λ q. by_test q (eqb q.ioa p.ioa) refl)
   where
-    by-test : (q : Point) (b : Bool) → eqb q.ioa p.ioa ≡ b → SamePoint q (pick b p q)
-    by-test q true e = record { ioa = sym (eqb-true _ _ e); still_ok = λ x. o }
-    by-test q false e = record { ioa = refl; still_ok = λ x. x }
+    by_test : (q : Point) (b : Bool) → eqb q.ioa p.ioa ≡ b → SamePoint q (pick b p q)
+    by_test q true e = record { ioa = sym (eqb-true _ _ e); still_ok = λ x. o }
+    by_test q false e = record { ioa = refl; still_ok = λ x. x }

@@ -7,31 +7,31 @@ use Rattle.limits.specs.Test.{total}
 use Rattle.asdu.specs.Joined.{joined}
 
 module _ {A B : Type 0} (f : A → List B) where
-  pub joined-one : (x : A) → joined f (x ∷ []) ≡ f x
+  pub joined_one : (x : A) → joined f (x ∷ []) ≡ f x
   unfolding joined
-  joined-one x = append-nil (f x)
+  joined_one x = append-nil (f x)
 
-  pub joined-append : (xs ys : List A) → joined f (xs ++ ys) ≡ joined f xs ++ joined f ys
+  pub joined_append : (xs ys : List A) → joined f (xs ++ ys) ≡ joined f xs ++ joined f ys
   unfolding joined
-  joined-append [] ys = refl
-  joined-append (x ∷ xs) ys = ap (λ (l : List B). f x ++ l) (joined-append xs ys) ∙ sym (append_assoc (f x) (joined f xs) (joined f ys))
+  joined_append [] ys = refl
+  joined_append (x ∷ xs) ys = ap (λ (l : List B). f x ++ l) (joined_append xs ys) ∙ sym (append_assoc (f x) (joined f xs) (joined f ys))
 
-  pub length-joined : (xs : List A) → length (joined f xs) ≡ total (λ x. length (f x)) xs
+  pub length_joined : (xs : List A) → length (joined f xs) ≡ total (λ x. length (f x)) xs
   unfolding joined total
-  length-joined [] = refl
-  length-joined (x ∷ xs) =
-      let ih : length (joined f xs) ≡ total (λ (y : A). length (f y)) xs = length-joined xs in
+  length_joined [] = refl
+  length_joined (x ∷ xs) =
+      let ih : length (joined f xs) ≡ total (λ (y : A). length (f y)) xs = length_joined xs in
       simp length-append (omega arith)
 
-  pub joined-map : {C : Type 0} (g : C → A) (xs : List C) → joined f (map g xs) ≡ joined (λ x. f (g x)) xs
+  pub joined_map : {C : Type 0} (g : C → A) (xs : List C) → joined f (map g xs) ≡ joined (λ x. f (g x)) xs
   unfolding joined
-  joined-map g [] = refl
-  joined-map g (x ∷ xs) = ap (λ (l : List B). f (g x) ++ l) (joined-map g xs)
+  joined_map g [] = refl
+  joined_map g (x ∷ xs) = ap (λ (l : List B). f (g x) ++ l) (joined_map g xs)
 
-  pub joined-joined : {C : Type 0} (g : C → List A) (xs : List C) → joined f (joined g xs) ≡ joined (λ x. joined f (g x)) xs
+  pub joined_joined : {C : Type 0} (g : C → List A) (xs : List C) → joined f (joined g xs) ≡ joined (λ x. joined f (g x)) xs
   unfolding joined
-  joined-joined g [] = refl
-  joined-joined g (x ∷ xs) = joined-append (g x) (joined g xs) ∙ ap (λ (l : List B). joined f (g x) ++ l) (joined-joined g xs)
+  joined_joined g [] = refl
+  joined_joined g (x ∷ xs) = joined_append (g x) (joined g xs) ∙ ap (λ (l : List B). joined f (g x) ++ l) (joined_joined g xs)
 
 -- what is joined of equal lists is equal
 pub joined_same : {A B : Type 0} (f g : A → List B) → ((x : A) → f x ≡ g x) → (xs : List A) → joined f xs ≡ joined g xs

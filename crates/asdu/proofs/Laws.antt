@@ -12,7 +12,7 @@ use Rattle.octets.specs.Number.{Octets, three}
 use Rattle.asdu.specs.declared.header.Header.{Header}
 use Rattle.asdu.specs.Joined.{joined}
 use Rattle.asdu.specs.Header.{Object, Asdu, header, object_octets, asdu_octets, wire, cause_octet, header_in, sequence_in}
-use Rattle.asdu.proofs.Joined.{joined-one, joined-append, joined-map}
+use Rattle.asdu.proofs.Joined.{joined_one, joined_append, joined_map}
 
 -- ---- lengths
 
@@ -45,16 +45,16 @@ wire_more a xs = refl
 
 pub wire_one : (a : Asdu) → wire (a ∷ []) ≡ asdu_octets a
 unfolding wire
-wire_one a = joined-one asdu_octets a
+wire_one a = joined_one asdu_octets a
 
 pub wire_append : (xs ys : List Asdu) → wire (xs ++ ys) ≡ wire xs ++ wire ys
 unfolding wire
-wire_append xs ys = joined-append asdu_octets xs ys
+wire_append xs ys = joined_append asdu_octets xs ys
 
 -- an ASDU of each
 pub wire_map : {A : Type 0} (f : A → Asdu) (xs : List A) → wire (map f xs) ≡ joined (λ x. asdu_octets (f x)) xs
 unfolding wire
-wire_map f xs = joined-map asdu_octets f xs
+wire_map f xs = joined_map asdu_octets f xs
 
 -- confirmation, data, termination
 pub wire_between : (a : Asdu) (xs : List Asdu) (b : Asdu) → wire (a ∷ (xs ++ (b ∷ []))) ≡ asdu_octets a ++ (wire xs ++ asdu_octets b)

@@ -12,7 +12,7 @@ use Rattle.asdu.specs.Joined.{joined}
 use Rattle.asdu.specs.Header.{Object, header, object_octets, asdu_octets, most_octets}
 use Rattle.asdu.specs.Command.{object_at}
 use Rattle.asdu.specs.Confirmation.{reply_to, object_in, objects_in, objects_of, confirmation, echo, reply}
-use Rattle.asdu.proofs.Joined.{joined-one}
+use Rattle.asdu.proofs.Joined.{joined_one}
 use Rattle.asdu.proofs.Laws.{length_object, length_asdu}
 use Rattle.asdu.proofs.Objects.{octets_drop, objects_count, whole_count, length_objects, object_again, whole_again, run_again}
 use Rattle.asdu.proofs.Reading.{WellRead, first_there}
@@ -37,7 +37,7 @@ unfolding confirmation
 confirmation_octets c m cause negative o h =
     let x = object_in c.element (drop 6 m) in
     reply_octets c c.kind 1 cause negative (x ∷ []) (take (3 + c.element) (drop 6 m)) refl
-    (joined-one object_octets x ∙ object_again c.element (drop 6 m) (octets_drop m 6 o) (simp length-drop (omega arith)))
+    (joined_one object_octets x ∙ object_again c.element (drop 6 m) (octets_drop m 6 o) (simp length-drop (omega arith)))
 
 -- of an echo: its header, and all octets after the command's own
 pub echo_octets : (c : Command) (m : List ℕ) (cause : ℕ) (negative : Bool) → Octets m → length m ≡ object_at c.element c.count
@@ -60,7 +60,7 @@ unfolding confirmation
 length_confirmation c m cause negative h =
     let x = object_in c.element (drop 6 m) in
     let l = length_reply c c.kind cause negative (x ∷ []) in
-    let n : length (joined object_octets (x ∷ [])) ≡ 3 + length x.element = ap length (joined-one object_octets x) ∙ length_object x in
+    let n : length (joined object_octets (x ∷ [])) ≡ 3 + length x.element = ap length (joined_one object_octets x) ∙ length_object x in
     let k : length x.element ≡ c.element = simp (length-take, length-drop) (omega arith) in
     omega arith
 

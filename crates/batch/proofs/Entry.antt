@@ -12,59 +12,59 @@ use Rattle.table.specs.Memory.{well_formed, table_of}
 use Rattle.registry.specs.declared.Reply.{Reply}
 use Rattle.registry.specs.Effect.{Effect, holding, reply_on, memory_on}
 use Rattle.replies.specs.Replies.{Replies}
-use Rattle.replies.proofs.Ways.{of-table}
+use Rattle.replies.proofs.Ways.{of_table}
 use Rattle.registry.specs.Registry.{own_tests, room_tests, registering_all}
 use Rattle.batch_room.specs.Room.{room_reply}
 
 module _ (m : List ℕ) (w : well_formed m ≡ true) (qs : List Request) where
   -- a point fails its own tests
-  refused-own : is_done (own_tests (table_of m) [] 0 qs).outcome ≡ false
+  refused_own : is_done (own_tests (table_of m) [] 0 qs).outcome ≡ false
       → registering_all qs (table_of m) ≡ record { outcome = (own_tests (table_of m) [] 0 qs).outcome; place = (own_tests (table_of m) [] 0 qs).place; after = table_of m }
   unfolding registering_all
-  refused-own d = simp d
+  refused_own d = simp d
 
   -- all pass
-  passed-own : is_done (own_tests (table_of m) [] 0 qs).outcome ≡ true → registering_all qs (table_of m) ≡ room_tests (table_of m) 0 qs
+  passed_own : is_done (own_tests (table_of m) [] 0 qs).outcome ≡ true → registering_all qs (table_of m) ≡ room_tests (table_of m) 0 qs
   unfolding registering_all
-  passed-own d = simp d
+  passed_own d = simp d
 
   -- Refused by 11 to 17.
-  pub own-refusal : (x : Reply) → x ≡ own_tests (table_of m) [] 0 qs → is_done x.outcome ≡ false → Replies (registering_all qs) m x m
-  own-refusal x e d =
-      let t = of-table (registering_all qs) m w in
+  pub own_refusal : (x : Reply) → x ≡ own_tests (table_of m) [] 0 qs → is_done x.outcome ≡ false → Replies (registering_all qs) m x m
+  own_refusal x e d =
+      let t = of_table (registering_all qs) m w in
       let n : is_done (own_tests (table_of m) [] 0 qs).outcome ≡ false = ap (λ (y : Reply). is_done y.outcome) (sym e) ∙ d in
-      let r = refused-own n in (
+      let r = refused_own n in (
         e ∙ sym (t.0 ∙ ap (λ (f : Effect). record { outcome = f.outcome; place = f.place }) r),
         sym (t.1 ∙ ap (λ (f : Effect). pick (is_done f.outcome) (holding m (table_of m) f.after) m) r ∙ simp n),
       )
 
   module _ (p : is_done (own_tests (table_of m) [] 0 qs).outcome ≡ true) (x : Reply) (e : x ≡ room_reply (table_of m) qs) where
     -- the reply is the share rule's
-    room-reply : x ≡ reply_on (registering_all qs) m
+    room_reply_lem : x ≡ reply_on (registering_all qs) m
     unfolding room_reply
-    room-reply = e ∙ sym ((of-table (registering_all qs) m w).0 ∙ ap (λ (f : Effect). record { outcome = f.outcome; place = f.place }) (passed-own p))
+    room_reply_lem = e ∙ sym ((of_table (registering_all qs) m w).0 ∙ ap (λ (f : Effect). record { outcome = f.outcome; place = f.place }) (passed_own p))
 
-    room-outcome : x.outcome ≡ (room_tests (table_of m) 0 qs).outcome
+    room_outcome : x.outcome ≡ (room_tests (table_of m) 0 qs).outcome
     unfolding room_reply
-    room-outcome = ap (λ (y : Reply). y.outcome) e
+    room_outcome = ap (λ (y : Reply). y.outcome) e
 
-    room-memory : memory_on (registering_all qs) m ≡ pick (is_done (room_tests (table_of m) 0 qs).outcome) (holding m (table_of m) (room_tests (table_of m) 0 qs).after) m
-    room-memory =
-        (of-table (registering_all qs) m w).1 ∙ ap (λ (f : Effect). pick (is_done f.outcome) (holding m (table_of m) f.after) m) (passed-own p)
+    room_memory : memory_on (registering_all qs) m ≡ pick (is_done (room_tests (table_of m) 0 qs).outcome) (holding m (table_of m) (room_tests (table_of m) 0 qs).after) m
+    room_memory =
+        (of_table (registering_all qs) m w).1 ∙ ap (λ (f : Effect). pick (is_done f.outcome) (holding m (table_of m) f.after) m) (passed_own p)
 
     -- Refused for room: 19, 20.
-    pub room-refusal : is_done x.outcome ≡ false → Replies (registering_all qs) m x m
-    room-refusal d =
-        let n : is_done (room_tests (table_of m) 0 qs).outcome ≡ false = ap is_done (sym room-outcome) ∙ d in
-        (room-reply, sym (room-memory ∙ simp n))
+    pub room_refusal : is_done x.outcome ≡ false → Replies (registering_all qs) m x m
+    room_refusal d =
+        let n : is_done (room_tests (table_of m) 0 qs).outcome ≡ false = ap is_done (sym room_outcome) ∙ d in
+        (room_reply_lem, sym (room_memory ∙ simp n))
 
     -- What the storing asks.
     pub has_room : is_done x.outcome ≡ true → (room_tests (table_of m) 0 qs).outcome ≡ Done
-    has_room d = sym room-outcome ∙ done_is _ d
+    has_room d = sym room_outcome ∙ done_is _ d
 
     -- Done: all are stored.
-    pub stored-all : is_done x.outcome ≡ true → (later : List ℕ) → later ≡ holding m (table_of m) (room_tests (table_of m) 0 qs).after
+    pub stored_all : is_done x.outcome ≡ true → (later : List ℕ) → later ≡ holding m (table_of m) (room_tests (table_of m) 0 qs).after
         → Replies (registering_all qs) m x later
-    stored-all d later s =
-        let n : is_done (room_tests (table_of m) 0 qs).outcome ≡ true = ap is_done (sym room-outcome) ∙ d in
-        (room-reply, s ∙ sym (room-memory ∙ simp n))
+    stored_all d later s =
+        let n : is_done (room_tests (table_of m) 0 qs).outcome ≡ true = ap is_done (sym room_outcome) ∙ d in
+        (room_reply_lem, s ∙ sym (room_memory ∙ simp n))

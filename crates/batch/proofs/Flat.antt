@@ -178,14 +178,14 @@ insert_none p = refl
 points_added : (ca : ℕ) (p : Point) (ps : List Point) → flat_of ca (insert_in p ps) ≡ with_place (placed_point ca p) (flat_of ca ps)
 unfolding flat_of
 points_added ca p [] = ap (flat_of ca) (insert_none p) ∙ sym (put_none (placed_point ca p))
-points_added ca p (q ∷ qs) = by-test (points_added ca p qs) (leb p.ioa q.ioa) refl
+points_added ca p (q ∷ qs) = by_test (points_added ca p qs) (leb p.ioa q.ioa) refl
   where
-    by-test : flat_of ca (insert_in p qs) ≡ with_place (placed_point ca p) (flat_of ca qs) → (b : Bool) → leb p.ioa q.ioa ≡ b
+    by_test : flat_of ca (insert_in p qs) ≡ with_place (placed_point ca p) (flat_of ca qs) → (b : Bool) → leb p.ioa q.ioa ≡ b
         → flat_of ca (insert_in p (q ∷ qs)) ≡ with_place (placed_point ca p) (placed_point ca q ∷ flat_of ca qs)
-    by-test ih true t =
+    by_test ih true t =
         let h : p.ioa ≤ q.ioa = leb-true _ _ t in
         ap (flat_of ca) (insert_first p q qs h) ∙ sym (put_first (placed_point ca p) (placed_point ca q) (flat_of ca qs) (omega arith))
-    by-test ih false t =
+    by_test ih false t =
         let h : q.ioa < p.ioa = leb-false _ _ t in
         ap (flat_of ca) (insert_later p q qs h) ∙ ap (λ (l : List Placed). placed_point ca q ∷ l) ih
         ∙ sym (put_later (placed_point ca p) (placed_point ca q) (flat_of ca qs) (omega arith))
@@ -198,11 +198,11 @@ found_from cap low ca (x ∷ ss) s p e =
     let p1 = both _ _ p in
     let c : low ≤ x.ca = leb-true _ _ p1.0 in
     let q : planned cap (x.ca + 1) ss ≡ true = (both _ _ (both _ _ (both _ _ p1.1).1).1).1 in
-    by-test c (λ f. found_from cap (x.ca + 1) ca ss s q f) (eqb x.ca ca) refl e
+    by_test c (λ f. found_from cap (x.ca + 1) ca ss s q f) (eqb x.ca ca) refl e
   where
-    by-test : low ≤ x.ca → (station_of ca ss ≡ some s → x.ca + 1 ≤ ca) → (b : Bool) → eqb x.ca ca ≡ b → pick b (some x) (station_of ca ss) ≡ some s → low ≤ ca
-    by-test c ih true t f = let g : x.ca ≡ ca = eqb-true _ _ t in omega arith
-    by-test c ih false t f = let g : x.ca + 1 ≤ ca = ih f in omega arith
+    by_test : low ≤ x.ca → (station_of ca ss ≡ some s → x.ca + 1 ≤ ca) → (b : Bool) → eqb x.ca ca ≡ b → pick b (some x) (station_of ca ss) ≡ some s → low ≤ ca
+    by_test c ih true t f = let g : x.ca ≡ ca = eqb-true _ _ t in omega arith
+    by_test c ih false t f = let g : x.ca + 1 ≤ ca = ih f in omega arith
 
 -- A point taken into its station is put in by its address.
 pub flat_added : (cap low ca : ℕ) (p : Point) (ss : List Station) (s : Station) → planned cap low ss ≡ true → all_rising ss ≡ true → p.ioa ≤ 16777215
@@ -213,19 +213,19 @@ flat_added cap low ca p (x ∷ ss) s pl ri i e =
     let p1 = both _ _ pl in
     let q : planned cap (x.ca + 1) ss ≡ true = (both _ _ (both _ _ (both _ _ p1.1).1).1).1 in
     let r1 = both _ _ ri in
-    by-test q r1.0 (λ f. found_from cap (x.ca + 1) ca ss s q f) (λ f. flat_added cap (x.ca + 1) ca p ss s q r1.1 i f) (eqb x.ca ca) refl e
+    by_test q r1.0 (λ f. found_from cap (x.ca + 1) ca ss s q f) (λ f. flat_added cap (x.ca + 1) ca p ss s q r1.1 i f) (eqb x.ca ca) refl e
   where
-    by-test : planned cap (x.ca + 1) ss ≡ true → rising 0 x.points ≡ true → (station_of ca ss ≡ some s → x.ca + 1 ≤ ca)
+    by_test : planned cap (x.ca + 1) ss ≡ true → rising 0 x.points ≡ true → (station_of ca ss ≡ some s → x.ca + 1 ≤ ca)
         → (station_of ca ss ≡ some s → flat (in_station ca (with_points (insert_in p)) ss) ≡ with_place (placed_point ca p) (flat ss))
         → (b : Bool) → eqb x.ca ca ≡ b → pick b (some x) (station_of ca ss) ≡ some s
         → flat (pick b (with_points (insert_in p) x ∷ ss) (x ∷ in_station ca (with_points (insert_in p)) ss)) ≡ with_place (placed_point ca p) (flat_of x.ca x.points ++ flat ss)
-    by-test q r from ih true t f =
+    by_test q r from ih true t f =
         let g : x.ca ≡ ca = eqb-true _ _ t in
         let y : Placed = placed_point x.ca p in
         ap (λ (l : List Placed). l ++ flat ss) (points_added x.ca p x.points)
         ∙ sym (put_before y (flat_of x.ca x.points) (flat ss) (stations_from_lem (16777216 * x.ca + p.ioa) cap (x.ca + 1) ss (omega arith) q))
         ∙ ap (λ (c : ℕ). with_place (placed_point c p) (flat_of x.ca x.points ++ flat ss)) g
-    by-test q r from ih false t f =
+    by_test q r from ih false t f =
         let g : x.ca + 1 ≤ ca = from f in
         ap (λ (l : List Placed). flat_of x.ca x.points ++ l) (ih f)
         ∙ sym (put_past (placed_point ca p) (flat_of x.ca x.points) (flat ss) (points_below (16777216 * ca + p.ioa) x.ca 0 x.points (omega arith) r))

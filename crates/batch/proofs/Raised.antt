@@ -135,34 +135,34 @@ raisable_past m m' taken b i at (suc n) e h r =
 
 module _ (m taken : List ℕ) (at n : ℕ) where
   -- before the first turn
-  pub raise-start : (Raisable m taken 0 at n) → (raised m taken 0 at n ≡ raised m taken 0 (at + 8 * 0) (n - 0)) × Raisable m taken 0 (at + 8 * 0) (n - 0)
-  raise-start r =
+  pub raise_start : (Raisable m taken 0 at n) → (raised m taken 0 at n ≡ raised m taken 0 (at + 8 * 0) (n - 0)) × Raisable m taken 0 (at + 8 * 0) (n - 0)
+  raise_start r =
       let e : at ≡ at + 8 * 0 = omega arith in
       let f : n ≡ n - 0 = omega arith in
       (ap₂ (λ (x y : ℕ). raised m taken 0 x y) e f, subst (λ (y : ℕ). Raisable m taken 0 (at + 8 * 0) y) f (subst (λ (x : ℕ). Raisable m taken 0 x n) e r))
 
   module _ (i : ℕ) (h : i < n) (room : at + 8 * n ≤ length m) where
     -- the next station's number written
-    pub raise-on : raised m taken i (at + 8 * i) (n - i)
+    pub raise_on : raised m taken i (at + 8 * i) (n - i)
         ≡ raised (over m (at + 8 * i + 6) (pair (two m (at + 8 * i + 6) + get_or taken i 0))) taken (i + 1) (at + 8 * (i + 1)) (n - (i + 1))
     unfolding raised
-    raise-on =
+    raise_on =
         let e : n - i ≡ suc (n - (i + 1)) = omega arith in
         let f : at + 8 * i + 8 ≡ at + 8 * (i + 1) = omega arith in
         ap (raised m taken i (at + 8 * i)) e
         ∙ ap (λ (x : ℕ). raised (over m (at + 8 * i + 6) (pair (two m (at + 8 * i + 6) + get_or taken i 0))) taken (i + 1) x (n - (i + 1))) f
 
     -- it is a number of two octets
-    pub raise-fits : Raisable m taken i (at + 8 * i) (n - i) → two m (at + 8 * i + 6) + get_or taken i 0 < 65536
+    pub raise_fits : Raisable m taken i (at + 8 * i) (n - i) → two m (at + 8 * i + 6) + get_or taken i 0 < 65536
     unfolding Raisable
-    raise-fits r =
+    raise_fits r =
         let e : n - i ≡ suc (n - (i + 1)) = omega arith in
         (subst (λ (x : ℕ). Raisable m taken i (at + 8 * i) x) e r).0
 
     -- the others still can be raised
-    pub raisable-on : (v : ℕ) → Raisable m taken i (at + 8 * i) (n - i) → Raisable (over m (at + 8 * i + 6) (pair v)) taken (i + 1) (at + 8 * (i + 1)) (n - (i + 1))
+    pub raisable_on : (v : ℕ) → Raisable m taken i (at + 8 * i) (n - i) → Raisable (over m (at + 8 * i + 6) (pair v)) taken (i + 1) (at + 8 * (i + 1)) (n - (i + 1))
     unfolding Raisable
-    raisable-on v r =
+    raisable_on v r =
         let e : n - i ≡ suc (n - (i + 1)) = omega arith in
         let f : at + 8 * i + 8 ≡ at + 8 * (i + 1) = omega arith in
         let s = (subst (λ (x : ℕ). Raisable m taken i (at + 8 * i) x) e r).1 in
@@ -171,6 +171,6 @@ module _ (m taken : List ℕ) (at n : ℕ) where
         (subst (λ (x : ℕ). Raisable m taken (i + 1) x (n - (i + 1))) f s)
 
   -- no station is left
-  pub raise-end : (i : ℕ) → n ≤ i → raised m taken i (at + 8 * i) (n - i) ≡ m
+  pub raise_end : (i : ℕ) → n ≤ i → raised m taken i (at + 8 * i) (n - i) ≡ m
   unfolding raised
-  raise-end i h = let e : n - i ≡ 0 = omega arith in ap (raised m taken i (at + 8 * i)) e
+  raise_end i h = let e : n - i ≡ 0 = omega arith in ap (raised m taken i (at + 8 * i)) e

@@ -54,9 +54,9 @@ module _ (t : Table) (n c : ℕ) (ss ss' : List Station) (rest : List ℕ) (coun
       length-append (head t.settings k (length ss) n) (B ++ Z) ∙ (omega arith)
 
   -- The new places written over the old ones and the unused places that they take.
-  places-over : over (image (with_stations ss t) ++ rest) 64 (bodies ss') ≡ front ++ (entries ss ++ rest)
+  places_over : over (image (with_stations ss t) ++ rest) 64 (bodies ss') ≡ front ++ (entries ss ++ rest)
   unfolding front image
-  places-over =
+  places_over =
       let H : List ℕ = head t.settings k (length ss) n in
       let B : List ℕ = bodies ss in
       let B' : List ℕ = bodies ss' in
@@ -70,15 +70,15 @@ module _ (t : Table) (n c : ℕ) (ss ss' : List Station) (rest : List ℕ) (coun
       let lb' : length B' ≡ 48 * (n + c) = length_bodies ss' ∙ ap (λ (x : ℕ). 48 * x) more in
       let lz : length Z ≡ 48 * c = length-replicate (48 * c) 0 in
       let lbz : length (B ++ Z) ≡ length B + length Z = length-append B Z in
-      let e : image-of n (replicate (48 * (k - n)) 0) ≡ H ++ ((B ++ Z) ++ (Z' ++ R)) =
-      ap (image-of n) z ∙ simp append_assoc in
-      (λ j. over (image-of (count j) (replicate (48 * (k - count j)) 0)) 64 B')
+      let e : image_of n (replicate (48 * (k - n)) 0) ≡ H ++ ((B ++ Z) ++ (Z' ++ R)) =
+      ap (image_of n) z ∙ simp append_assoc in
+      (λ j. over (image_of (count j) (replicate (48 * (k - count j)) 0)) 64 B')
       ∙ ap (λ (x : List ℕ). over x 64 B') e
       ∙ over_at H (B ++ Z) (Z' ++ R) B' 64 refl (omega arith)
       ∙ simp append_assoc
     where
-      image-of : ℕ → List ℕ → List ℕ
-      image-of x z = (head t.settings k (length ss) x ++ (bodies ss ++ (z ++ entries ss))) ++ rest
+      image_of : ℕ → List ℕ → List ℕ
+      image_of x z = (head t.settings k (length ss) x ++ (bodies ss ++ (z ++ entries ss))) ++ rest
 
   -- Places, stations and the number of points written: the image of the table that holds more.
   pub stored_image : (taken : List ℕ) → map holding_of ss' ≡ holding_with ss taken 0
@@ -91,17 +91,17 @@ module _ (t : Table) (n c : ℕ) (ss ss' : List Station) (rest : List ℕ) (coun
       let Z : List ℕ = replicate (48 * (k - (n + c))) 0 in
       let E : List ℕ = entries ss' in
       let s : S ≡ length ss' = sym (same_stations ss ss' taken 0 e) in
-      ap (λ (x : List ℕ). over (raised x taken 0 (64 + 48 * k) S) 8 (pair (n + c))) places-over
+      ap (λ (x : List ℕ). over (raised x taken 0 (64 + 48 * k) S) 8 (pair (n + c))) places_over
       ∙ ap (λ (x : List ℕ). over x 8 (pair (n + c))) (raise_entries front rest ss ss' taken 0 (64 + 48 * k) front_length e ∙ append_assoc (head t.settings k S n) (B ++ Z) (E ++ rest))
       ∙ head_over t.settings k S n (n + c) ((B ++ Z) ++ (E ++ rest))
       ∙ (λ j. head t.settings k (s j) (sym more j) ++ ((B ++ replicate (48 * (k - sym more j)) 0) ++ (E ++ rest)))
       ∙ simp append_assoc
 
   -- What raising the stations' numbers asks.
-  pub stored-raisable : (taken : List ℕ) (low : ℕ) → k ≤ 4096 → map holding_of ss' ≡ holding_with ss taken 0 → plan_ok k low ss' ≡ true
+  pub stored_raisable : (taken : List ℕ) (low : ℕ) → k ≤ 4096 → map holding_of ss' ≡ holding_with ss taken 0 → plan_ok k low ss' ≡ true
       → Raisable (over (image (with_stations ss t) ++ rest) 64 (bodies ss')) taken 0 (64 + 48 * k) (length ss)
-  stored-raisable taken low h e p =
-      subst (λ (x : List ℕ). Raisable x taken 0 (64 + 48 * k) (length ss)) (sym places-over) (raisable_entries front rest k low ss ss' taken 0 (64 + 48 * k) front_length h p e)
+  stored_raisable taken low h e p =
+      subst (λ (x : List ℕ). Raisable x taken 0 (64 + 48 * k) (length ss)) (sym places_over) (raisable_entries front rest k low ss ss' taken 0 (64 + 48 * k) front_length h p e)
 
 -- ---- a memory that holds a table
 
@@ -152,7 +152,7 @@ storable m r taken o (w, own, room) took =
     let whole : 64 + 48 * two m 4 + 8 * two m 6 ≤ length m = (passed m w).top.room in
     let room-records : 24 * (0 + c) ≤ length r = omega arith in
     let raises : Raisable (over (image t ++ rest) 64 (bodies T.stations)) taken 0 (64 + 48 * t.capacity) (length t.stations) =
-    stored-raisable t (total held t.stations) c t.stations T.stations rest refl more fits taken 1 high lines (ap (λ (x : ℕ). plan_ok x 1 T.stations) (sym cap) ∙ n.0.plan) in
+    stored_raisable t (total held t.stations) c t.stations T.stations rest refl more fits taken 1 high lines (ap (λ (x : ℕ). plan_ok x 1 T.stations) (sym cap) ∙ n.0.plan) in
     let image-is = stored_image t (total held t.stations) c t.stations T.stations rest refl more fits taken lines in
     record {
       stations = (passed m w).top.s_high;

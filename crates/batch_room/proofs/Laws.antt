@@ -15,7 +15,7 @@ use Rattle.limits.specs.declared.share.Share.{Share}
 use Rattle.limits.specs.declared.outcome.Outcome.{Outcome}
 use Rattle.limits.specs.declared.outcome.Outcome.TheVariants.{Done, StationNotPlanned}
 use Rattle.limits.proofs.Outcomes.{done_is, not_both}
-use Rattle.limits.proofs.Shares.{unmet_is, admitted-only}
+use Rattle.limits.proofs.Shares.{unmet_is, admitted_only}
 use Rattle.octets.specs.Number.{two}
 use Rattle.model.specs.declared.Point.{Point}
 use Rattle.model.specs.declared.Request.{Request}
@@ -49,12 +49,12 @@ pub seat_index : (m : List ℕ) (ca i pb sb n j first h : ℕ) → seat_in m ca 
 unfolding seat_in
 seat_index m ca i pb sb zero j first h e = let z : ◌≡◌ {A = ℕ} 0 1 = cc in absurd (omega arith)
 seat_index m ca i pb sb (suc n) j first h e =
-    by-test (eqb (two m sb) ca) e (λ f. seat_index m ca (i + 1) (pb + 48 * two m (sb + 6)) (sb + 8) n j first h f)
+    by_test (eqb (two m sb) ca) e (λ f. seat_index m ca (i + 1) (pb + 48 * two m (sb + 6)) (sb + 8) n j first h f)
   where
-    by-test : (t : Bool) → pick t (Here i pb (two m (sb + 6))) (seat_in m ca (i + 1) (pb + 48 * two m (sb + 6)) (sb + 8) n) ≡ Here j first h
+    by_test : (t : Bool) → pick t (Here i pb (two m (sb + 6))) (seat_in m ca (i + 1) (pb + 48 * two m (sb + 6)) (sb + 8) n) ≡ Here j first h
         → (seat_in m ca (i + 1) (pb + 48 * two m (sb + 6)) (sb + 8) n ≡ Here j first h → j < i + 1 + n) → j < i + suc n
-    by-test true f again = let d : i ≡ j = cc in omega arith
-    by-test false f again = let r = again f in omega arith
+    by_test true f again = let d : i ≡ j = cc in omega arith
+    by_test false f again = let r = again f in omega arith
 
 pub seat_inside : (m : List ℕ) (ca j first h : ℕ) → seat_at m ca ≡ Here j first h → j < two m 6
 unfolding seat_at
@@ -63,39 +63,39 @@ seat_inside m ca j first h e = let r = seat_index m ca 0 64 (64 + 48 * two m 4) 
 -- who is admitted is below the ceiling
 pub done_below : (s : Share) (free unmet : ℕ) → is_done (standing_of s free unmet).outcome ≡ true → s.held < s.ceiling
 unfolding standing_of
-done_below s free unmet d = (admitted-only s free unmet (admitted_is _ (done_is _ d))).below_ceiling
+done_below s free unmet d = (admitted_only s free unmet (admitted_is _ (done_is _ d))).below_ceiling
 
 module _ (m taken : List ℕ) (ca free unmet : ℕ) where
-  pub turn-unplanned : seat_at m ca ≡ NotPlanned
+  pub turn_unplanned : seat_at m ca ≡ NotPlanned
       → (record { outcome = StationNotPlanned; free = free; unmet = unmet } ≡ standing_at m taken (seat_at m ca) free unmet)
       × (taken ≡ taken_at m taken (seat_at m ca) free unmet)
   unfolding standing_at taken_at
-  turn-unplanned e = (ap (λ (s : Seat). standing_at m taken s free unmet) (sym e), ap (λ (s : Seat). taken_at m taken s free unmet) (sym e))
+  turn_unplanned e = (ap (λ (s : Seat). standing_at m taken s free unmet) (sym e), ap (λ (s : Seat). taken_at m taken s free unmet) (sym e))
 
   module _ (j first h : ℕ) (e : seat_at m ca ≡ Here j first h) (x : Standing) (is : x ≡ standing_of (share_with m (station_at m j) (get_or taken j 0)) free unmet) where
     standing_here : x ≡ standing_at m taken (seat_at m ca) free unmet
     unfolding standing_at
     standing_here = is ∙ ap (λ (s : Seat). standing_at m taken s free unmet) (sym e)
 
-    pub turn-refused : is_done x.outcome ≡ false
+    pub turn_refused : is_done x.outcome ≡ false
         → (x ≡ standing_at m taken (seat_at m ca) free unmet) × (taken ≡ taken_at m taken (seat_at m ca) free unmet)
     unfolding taken_at
-    turn-refused d =
+    turn_refused d =
         let f : is_done (standing_of (share_with m (station_at m j) (get_or taken j 0)) free unmet).outcome ≡ false = ap (λ (y : Standing). is_done y.outcome) (sym is) ∙ d in
         (standing_here, sym (ap (λ (s : Seat). taken_at m taken s free unmet) e ∙ (simp f)))
 
-    pub turn-done : is_done x.outcome ≡ true
+    pub turn_done : is_done x.outcome ≡ true
         → (x ≡ standing_at m taken (seat_at m ca) free unmet) × (set taken j (get_or taken j 0 + 1) ≡ taken_at m taken (seat_at m ca) free unmet)
     unfolding taken_at
-    turn-done d =
+    turn_done d =
         let f : is_done (standing_of (share_with m (station_at m j) (get_or taken j 0)) free unmet).outcome ≡ true = ap (λ (y : Standing). is_done y.outcome) (sym is) ∙ d in
         (standing_here, sym (ap (λ (s : Seat). taken_at m taken s free unmet) e ∙ (simp f)))
 
 -- ---- the turns of the loop
 
 module _ (m taken r : List ℕ) (free unmet i n : ℕ) where
-  pub run-start : room_run m taken free unmet 0 (requests_at r 0 n) ≡ room_run m taken free unmet 0 (requests_at r (24 * 0) (n - 0))
-  run-start = let e : n ≡ n - 0 = omega arith in ap (λ (x : ℕ). room_run m taken free unmet 0 (requests_at r 0 x)) e
+  pub run_start : room_run m taken free unmet 0 (requests_at r 0 n) ≡ room_run m taken free unmet 0 (requests_at r (24 * 0) (n - 0))
+  run_start = let e : n ≡ n - 0 = omega arith in ap (λ (x : ℕ). room_run m taken free unmet 0 (requests_at r 0 x)) e
 
   module _ (h : i < n) (s : Standing) (e : s ≡ standing_at m taken (seat_at m (two r (24 * i))) free unmet) where
     pub run_on_lem : (later : List ℕ) → later ≡ taken_at m taken (seat_at m (two r (24 * i))) free unmet → is_done s.outcome ≡ true
@@ -107,38 +107,38 @@ module _ (m taken r : List ℕ) (free unmet i n : ℕ) where
         ∙ (simp z)
         ∙ (λ k. room_run m (sym f k) (sym e k).free (sym e k).unmet (i + 1) (requests_at r (24 * (i + 1)) (n - (i + 1))))
 
-    pub run-stop : is_done s.outcome ≡ false
+    pub run_stop : is_done s.outcome ≡ false
         → room_run m taken free unmet i (requests_at r (24 * i) (n - i)) ≡ record { outcome = s.outcome; place = i }
     unfolding room_run
-    run-stop d =
+    run_stop d =
         let z : is_done (standing_at m taken (seat_at m (two r (24 * i))) free unmet).outcome ≡ false = ap (λ (y : Standing). is_done y.outcome) (sym e) ∙ d in
         ap (room_run m taken free unmet i) (requests_on r i n h)
         ∙ (simp z)
         ∙ (λ k. record { outcome = (sym e k).outcome; place = i })
 
     -- the same of what was taken in
-    pub taken-on : (later : List ℕ) → later ≡ taken_at m taken (seat_at m (two r (24 * i))) free unmet → is_done s.outcome ≡ true
+    pub taken_on : (later : List ℕ) → later ≡ taken_at m taken (seat_at m (two r (24 * i))) free unmet → is_done s.outcome ≡ true
         → taken_run m taken free unmet (requests_at r (24 * i) (n - i)) ≡ taken_run m later s.free s.unmet (requests_at r (24 * (i + 1)) (n - (i + 1)))
     unfolding taken_run
-    taken-on later f d =
+    taken_on later f d =
         let z : is_done (standing_at m taken (seat_at m (two r (24 * i))) free unmet).outcome ≡ true = ap (λ (y : Standing). is_done y.outcome) (sym e) ∙ d in
         ap (taken_run m taken free unmet) (requests_on r i n h)
         ∙ (simp z)
         ∙ (λ k. taken_run m (sym f k) (sym e k).free (sym e k).unmet (requests_at r (24 * (i + 1)) (n - (i + 1))))
 
-    pub taken-stop : is_done s.outcome ≡ false
+    pub taken_stop : is_done s.outcome ≡ false
         → taken_run m taken free unmet (requests_at r (24 * i) (n - i)) ≡ taken_at m taken (seat_at m (two r (24 * i))) free unmet
     unfolding taken_run
-    taken-stop d =
+    taken_stop d =
         let z : is_done (standing_at m taken (seat_at m (two r (24 * i))) free unmet).outcome ≡ false = ap (λ (y : Standing). is_done y.outcome) (sym e) ∙ d in
         ap (taken_run m taken free unmet) (requests_on r i n h) ∙ (simp z)
 
   pub taken_start : taken_run m taken free unmet (requests_at r 0 n) ≡ taken_run m taken free unmet (requests_at r (24 * 0) (n - 0))
   taken_start = let e : n ≡ n - 0 = omega arith in ap (λ (x : ℕ). taken_run m taken free unmet (requests_at r 0 x)) e
 
-  pub taken-end : n ≤ i → taken_run m taken free unmet (requests_at r (24 * i) (n - i)) ≡ taken
+  pub taken_end : n ≤ i → taken_run m taken free unmet (requests_at r (24 * i) (n - i)) ≡ taken
   unfolding taken_run
-  taken-end h = ap (taken_run m taken free unmet) (requests_end r i n h)
+  taken_end h = ap (taken_run m taken free unmet) (requests_end r i n h)
 
   pub run_end : n ≤ i → room_run m taken free unmet i (requests_at r (24 * i) (n - i)) ≡ record { outcome = Done; place = 0 }
   unfolding room_run
@@ -240,11 +240,11 @@ reply_of e = record { outcome = e.outcome; place = e.place }
 one_turn : (o o' : Outcome) (i : ℕ) (t : Table) (x : Reply) (y : Effect) → o ≡ o' → (is_done o ≡ true → x ≡ reply_of y)
     → pick (is_done o) x (record { outcome = o; place = i }) ≡ reply_of (pick (is_done o') y (refused o' i t))
 unfolding reply_of
-one_turn o o' i t x y e again = by-test (is_done o) refl ∙ ap (λ (z : Outcome). reply_of (pick (is_done z) y (refused z i t))) e
+one_turn o o' i t x y e again = by_test (is_done o) refl ∙ ap (λ (z : Outcome). reply_of (pick (is_done z) y (refused z i t))) e
   where
-    by-test : (b : Bool) → is_done o ≡ b → pick b x (record { outcome = o; place = i }) ≡ reply_of (pick b y (refused o i t))
-    by-test true d = again d
-    by-test false d = refl
+    by_test : (b : Bool) → is_done o ≡ b → pick b x (record { outcome = o; place = i }) ≡ reply_of (pick b y (refused o i t))
+    by_test true d = again d
+    by_test false d = refl
 
 none_left : (i : ℕ) (t : Table) → record { outcome = Done; place = 0 } ≡ reply_of (room_tests t i [])
 unfolding room_tests reply_of
@@ -286,14 +286,14 @@ run_law m (q ∷ qs) taken free unmet' i t a =
 pub room_first : (t : Table) (i : ℕ) (q : Request) (qs : List Request) → (room_tests t i (q ∷ qs)).outcome ≡ Done
     → (room_fault t (station_of q.ca t.stations) ≡ Done) × (room_tests t i (q ∷ qs) ≡ room_tests (with_request t q) (i + 1) qs)
 unfolding room_tests
-room_first t i q qs e = by-test (is_done (room_fault t (station_of q.ca t.stations))) refl e
+room_first t i q qs e = by_test (is_done (room_fault t (station_of q.ca t.stations))) refl e
   where
-    by-test : (b : Bool) → is_done (room_fault t (station_of q.ca t.stations)) ≡ b
+    by_test : (b : Bool) → is_done (room_fault t (station_of q.ca t.stations)) ≡ b
         → (pick b (room_tests (with_request t q) (i + 1) qs) (refused (room_fault t (station_of q.ca t.stations)) i t)).outcome ≡ Done
         → (room_fault t (station_of q.ca t.stations) ≡ Done)
         × (pick b (room_tests (with_request t q) (i + 1) qs) (refused (room_fault t (station_of q.ca t.stations)) i t) ≡ room_tests (with_request t q) (i + 1) qs)
-    by-test true d f = (done_is _ d, refl)
-    by-test false d f = not_both (sym d ∙ ap is_done f)
+    by_test true d f = (done_is _ d, refl)
+    by_test false d f = not_both (sym d ∙ ap is_done f)
 
 -- the turn of a request by its seat
 turn_taken : (m taken : List ℕ) (free unmet' : ℕ) (t : Table) (q : Request) (qs : List Request) (goal : List Holding) (s : Seat) → Along m taken free unmet' t

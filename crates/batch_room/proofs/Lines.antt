@@ -128,17 +128,17 @@ asked m taken base ca j first h i pb sb zero ss b e l = let z : ◌≡◌ {A = �
 asked m taken base ca j first h i pb sb (suc n) [] b e l = let z : ◌≡◌ {A = ℕ} 0 1 = no_lines m taken i sb n l in absurd (omega arith)
 asked m taken base ca j first h i pb sb (suc n) (s ∷ ss) b e l =
     let q = lines_cons m taken i sb n s ss l in
-    by-test (eqb (two m sb) ca) refl e q.0 q.1 (λ x. asked m taken base ca j first h (i + 1) (pb + 48 * two m (sb + 6)) (sb + 8) n ss (omega arith) x q.1)
+    by_test (eqb (two m sb) ca) refl e q.0 q.1 (λ x. asked m taken base ca j first h (i + 1) (pb + 48 * two m (sb + 6)) (sb + 8) n ss (omega arith) x q.1)
   where
-    by-test : (t : Bool) → eqb (two m sb) ca ≡ t
+    by_test : (t : Bool) → eqb (two m sb) ca ≡ t
         → pick t (Here i pb (two m (sb + 6))) (seat_in m ca (i + 1) (pb + 48 * two m (sb + 6)) (sb + 8) n) ≡ Here j first h
         → holding_of s ≡ line_with m sb (get_or taken i 0) → map holding_of ss ≡ lines_at m taken (i + 1) (sb + 8) n
         → (seat_in m ca (i + 1) (pb + 48 * two m (sb + 6)) (sb + 8) n ≡ Here j first h → Asked m taken base ca j (i + 1) (sb + 8) n ss)
         → Asked m taken base ca j i sb (suc n) (s ∷ ss)
-    by-test true t f x y again =
+    by_test true t f x y again =
         let d : i ≡ j = cc in
         subst (λ (z : ℕ). Asked m taken base ca z i sb (suc n) (s ∷ ss)) d (asked_here m taken base ca i sb n s ss (eqb-true _ _ t) b x y)
-    by-test false t f x y again = asked_later m taken base ca j i sb n s ss (eqb-false _ _ t) x (again f)
+    by_test false t f x y again = asked_later m taken base ca j i sb n s ss (eqb-false _ _ t) x (again f)
 
 -- None found.
 pub not_asked : (m taken : List ℕ) (ca i pb sb n : ℕ) (ss : List Station) → seat_in m ca i pb sb n ≡ NotPlanned
@@ -148,14 +148,14 @@ not_asked m taken ca i pb sb n [] e l = refl
 not_asked m taken ca i pb sb zero (s ∷ ss) e l = let z : ◌≡◌ {A = ℕ} 0 1 = no_stations m taken i sb s ss l in absurd (omega arith)
 not_asked m taken ca i pb sb (suc n) (s ∷ ss) e l =
     let q = lines_cons m taken i sb n s ss l in
-    by-test (eqb (two m sb) ca) refl e q.0 (λ x. not_asked m taken ca (i + 1) (pb + 48 * two m (sb + 6)) (sb + 8) n ss x q.1)
+    by_test (eqb (two m sb) ca) refl e q.0 (λ x. not_asked m taken ca (i + 1) (pb + 48 * two m (sb + 6)) (sb + 8) n ss x q.1)
   where
-    by-test : (t : Bool) → eqb (two m sb) ca ≡ t
+    by_test : (t : Bool) → eqb (two m sb) ca ≡ t
         → pick t (Here i pb (two m (sb + 6))) (seat_in m ca (i + 1) (pb + 48 * two m (sb + 6)) (sb + 8) n) ≡ NotPlanned
         → holding_of s ≡ line_with m sb (get_or taken i 0)
         → (seat_in m ca (i + 1) (pb + 48 * two m (sb + 6)) (sb + 8) n ≡ NotPlanned → station_of ca ss ≡ none)
         → pick (eqb s.ca ca) (some s) (station_of ca ss) ≡ none
-    by-test true t f x again = let z : ◌≡◌ {A = ℕ} 0 1 = cc in absurd (omega arith)
-    by-test false t f x again =
+    by_test true t f x again = let z : ◌≡◌ {A = ℕ} 0 1 = cc in absurd (omega arith)
+    by_test false t f x again =
         let c : s.ca ≡ ca → ⊥ = λ w. eqb-false _ _ t (sym (ap (λ (y : Holding). y.ca) x) ∙ w) in
         simp (ne_eqb _ _ c) (again f)

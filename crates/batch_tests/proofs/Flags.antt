@@ -29,21 +29,21 @@ same_flag r at ca ioa e = let b = both _ _ e in ap₂ address_flag (eqb-true _ _
 pub unmarked : (flags r : List ℕ) (ca ioa n : ℕ) → Marked flags r n → get_or flags (address_flag ca ioa) 0 ≡ 0 → stands_before r ca ioa n ≡ false
 unfolding stands_before
 unmarked flags r ca ioa zero none_marked z = refl
-unmarked flags r ca ioa (suc n) (one_marked p w) z = by-test (has_address r (24 * n) ca ioa) refl (unmarked flags r ca ioa n w z)
+unmarked flags r ca ioa (suc n) (one_marked p w) z = by_test (has_address r (24 * n) ca ioa) refl (unmarked flags r ca ioa n w z)
   where
-    by-test : (b : Bool) → has_address r (24 * n) ca ioa ≡ b → stands_before r ca ioa n ≡ false → pick b true (stands_before r ca ioa n) ≡ false
-    by-test true e s =
+    by_test : (b : Bool) → has_address r (24 * n) ca ioa ≡ b → stands_before r ca ioa n ≡ false → pick b true (stands_before r ca ioa n) ≡ false
+    by_test true e s =
         let one : get_or flags (address_flag ca ioa) 0 ≡ 1 = ap (λ (k : ℕ). get_or flags k 0) (sym (same_flag r (24 * n) ca ioa e)) ∙ p in
         absurd (omega arith)
-    by-test false e s = s
+    by_test false e s = s
 
 -- a flag set stays set
 still_set : (flags : List ℕ) (k j : ℕ) → k < length flags → get_or flags j 0 ≡ 1 → get_or (set flags k 1) j 0 ≡ 1
-still_set flags k j h p = by-test (eqb j k) refl
+still_set flags k j h p = by_test (eqb j k) refl
   where
-    by-test : (b : Bool) → eqb j k ≡ b → get_or (set flags k 1) j 0 ≡ 1
-    by-test true e = ap (λ (y : ℕ). get_or (set flags k 1) y 0) (eqb-true j k e) ∙ get_or-set_same flags k 1 0 h
-    by-test false e = get_or-set_other flags k j 1 0 (eqb-false j k e) ∙ p
+    by_test : (b : Bool) → eqb j k ≡ b → get_or (set flags k 1) j 0 ≡ 1
+    by_test true e = ap (λ (y : ℕ). get_or (set flags k 1) y 0) (eqb-true j k e) ∙ get_or-set_same flags k 1 0 h
+    by_test false e = get_or-set_other flags k j 1 0 (eqb-false j k e) ∙ p
 
 still_marked : (flags r : List ℕ) (k n : ℕ) → k < length flags → Marked flags r n → Marked (set flags k 1) r n
 still_marked flags r k zero h none_marked = none_marked
@@ -68,16 +68,16 @@ flag_says flags r k n e w z = unmarked flags r _ _ n w (ap (λ (y : ℕ). get_or
 none_same : (r : List ℕ) (n i k : ℕ) → Differ r n → i < n → k ≤ i → stands_before r (two r (24 * i)) (four r (24 * i + 2)) k ≡ false
 unfolding stands_before has_address
 none_same r n i zero d h l = refl
-none_same r n i (suc k) d h l = by-test (eqb (two r (24 * k)) (two r (24 * i)) & eqb (four r (24 * k + 2)) (four r (24 * i + 2))) refl (none_same r n i k d h (omega arith))
+none_same r n i (suc k) d h l = by_test (eqb (two r (24 * k)) (two r (24 * i)) & eqb (four r (24 * k + 2)) (four r (24 * i + 2))) refl (none_same r n i k d h (omega arith))
   where
-    by-test : (b : Bool) → (eqb (two r (24 * k)) (two r (24 * i)) & eqb (four r (24 * k + 2)) (four r (24 * i + 2))) ≡ b
+    by_test : (b : Bool) → (eqb (two r (24 * k)) (two r (24 * i)) & eqb (four r (24 * k + 2)) (four r (24 * i + 2))) ≡ b
         → stands_before r (two r (24 * i)) (four r (24 * i + 2)) k ≡ false → pick b true (stands_before r (two r (24 * i)) (four r (24 * i + 2)) k) ≡ false
-    by-test true e s =
+    by_test true e s =
         let b = both _ _ e in
         let x = eqb-true _ _ b.0 in
         let y = eqb-true _ _ b.1 in
         absurd (d i k (omega arith) h (λ j. 16777216 * x j + y j))
-    by-test false e s = s
+    by_test false e s = s
 
 -- What the flag to go by says of the records before the next one.
 pub asked_says : (flags r : List ℕ) (apart : Bool) (f k n i : ℕ) → f ≡ pick apart 0 (get_or flags k 0) → k ≡ flag_at r (24 * i) → Marked flags r i → (apart ≡ true → Differ r n) → i < n

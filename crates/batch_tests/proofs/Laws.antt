@@ -45,38 +45,38 @@ unfolding batch_fault is_planned fault_with
 fault_unplanned t earlier q e = sym (ap (λ (s : Option Station). fault_with s earlier q) e ∙ simp (never_done (own_fault false q) (unplanned q)))
 
 module _ (t : Table) (earlier : List Request) (q : Request) (s : Station) (e : station_of q.ca t.stations ≡ some s) where
-  with-station : batch_fault t earlier q
+  with_station : batch_fault t earlier q
       ≡ first_fault (own_fault true q) (first_fault (pick (stands_in q earlier) AddressTwice Done) (pick (known q.ioa s.points) AlreadyRegistered Done))
   unfolding batch_fault is_planned is_registered fault_with
-  with-station = ap (λ (s : Option Station). fault_with s earlier q) e
+  with_station = ap (λ (s : Option Station). fault_with s earlier q) e
 
   -- 11 to 15.
-  pub fault-own : is_done (own_fault true q) ≡ false → own_fault true q ≡ batch_fault t earlier q
-  fault-own d = sym (with-station ∙ simp d)
+  pub fault_own : is_done (own_fault true q) ≡ false → own_fault true q ≡ batch_fault t earlier q
+  fault_own d = sym (with_station ∙ simp d)
 
   module _ (d : is_done (own_fault true q) ≡ true) where
     -- 16.
-    pub fault-twice : stands_in q earlier ≡ true → AddressTwice ≡ batch_fault t earlier q
-    fault-twice f = sym (with-station ∙ simp (d, f))
+    pub fault_twice : stands_in q earlier ≡ true → AddressTwice ≡ batch_fault t earlier q
+    fault_twice f = sym (with_station ∙ simp (d, f))
 
     -- 17.
-    pub fault-known : stands_in q earlier ≡ false → known q.ioa s.points ≡ true → AlreadyRegistered ≡ batch_fault t earlier q
-    fault-known f k = sym (with-station ∙ simp (d, f, k))
+    pub fault_known : stands_in q earlier ≡ false → known q.ioa s.points ≡ true → AlreadyRegistered ≡ batch_fault t earlier q
+    fault_known f k = sym (with_station ∙ simp (d, f, k))
 
     -- None.
-    pub fault-none : stands_in q earlier ≡ false → known q.ioa s.points ≡ false → Done ≡ batch_fault t earlier q
-    fault-none f k = sym (with-station ∙ simp (d, f, k))
+    pub fault_none : stands_in q earlier ≡ false → known q.ioa s.points ≡ false → Done ≡ batch_fault t earlier q
+    fault_none f k = sym (with_station ∙ simp (d, f, k))
 
 -- What is found at a seat is what the station knows.
 pub held_known : (m : List ℕ) (ca i first h ioa : ℕ) (w : Seen m ca i first h) → is_held (find_at m first h ioa) ≡ known ioa w.seat.s.points
 unfolding spot_in
 held_known m ca i first h ioa w =
     let ps = points_at m first h in
-    ap is_held (find_law m first h ioa (ap (rising 0) w.points ∙ w.rises)) ∙ by-test (known ioa ps) (seek_in ioa ps) ∙ ap (known ioa) w.points
+    ap is_held (find_law m first h ioa (ap (rising 0) w.points ∙ w.rises)) ∙ by_test (known ioa ps) (seek_in ioa ps) ∙ ap (known ioa) w.points
   where
-    by-test : (b : Bool) (j : ℕ) → is_held (pick b (Held (first + 48 * j)) (Missing (first + 48 * j))) ≡ b
-    by-test true j = refl
-    by-test false j = refl
+    by_test : (b : Bool) (j : ℕ) → is_held (pick b (Held (first + 48 * j)) (Missing (first + 48 * j))) ≡ b
+    by_test true j = refl
+    by_test false j = refl
 
 -- ---- the turns
 
@@ -90,15 +90,15 @@ module _ (t : Table) (m : List ℕ) (i n : ℕ) where
       ∙ ap (λ (e : List Request). own_tests t e (i + 1) (requests_at m (24 * (i + 1)) (n - (i + 1)))) (sym (earlier_on m i))
 
   -- It does not.
-  pub own-stop : i < n → is_done (batch_fault t (earlier_at m i) (request_at m (24 * i))) ≡ false
+  pub own_stop : i < n → is_done (batch_fault t (earlier_at m i) (request_at m (24 * i))) ≡ false
       → own_tests t (earlier_at m i) i (requests_at m (24 * i) (n - i)) ≡ record { outcome = batch_fault t (earlier_at m i) (request_at m (24 * i)); place = i }
   unfolding own_tests
-  own-stop h d = ap (own_tests t (earlier_at m i) i) (requests_on m i n h) ∙ simp d
+  own_stop h d = ap (own_tests t (earlier_at m i) i) (requests_on m i n h) ∙ simp d
 
   -- None is left.
-  pub own-end : n ≤ i → own_tests t (earlier_at m i) i (requests_at m (24 * i) (n - i)) ≡ record { outcome = Done; place = 0 }
+  pub own_end : n ≤ i → own_tests t (earlier_at m i) i (requests_at m (24 * i) (n - i)) ≡ record { outcome = Done; place = 0 }
   unfolding own_tests
-  own-end h = ap (own_tests t (earlier_at m i) i) (requests_end m i n h)
+  own_end h = ap (own_tests t (earlier_at m i) i) (requests_end m i n h)
 
 -- At the start none stands earlier.
 pub own_start : (t : Table) (m : List ℕ) → own_tests t [] 0 (requests_in m) ≡ own_tests t (earlier_at m 0) 0 (requests_at m (24 * 0) (length m / 24 - 0))

@@ -23,7 +23,7 @@ use Rattle.asdu.specs.Command.{read_as}
 use Rattle.answers.specs.declared.Answered.{Answered}
 use Rattle.answers.specs.Said.{Said, Lent, lent, outcome_with, lent_from, lent_after, Leaves, as_it_is}
 use Rattle.answers.specs.System.{clock_from, is_silent, command_said, system_from, system_said}
-use Rattle.answers.proofs.Common.{refused-says-nothing}
+use Rattle.answers.proofs.Common.{refused_says_nothing}
 use Rattle.clock.specs.declared.Clock.{Clock}
 use Rattle.clock.specs.Clock.{flag_of, with_flag, octets_of, clock_of}
 
@@ -51,11 +51,11 @@ pub Flagged : List ℕ → Type 0
 Flagged x = get_or x 7 0 ≤ 1
 
 flag_again : (f : ℕ) → f ≤ 1 → flag_of (not (eqb f 0)) ≡ f
-flag_again f h = by-test (eqb f 0) refl
+flag_again f h = by_test (eqb f 0) refl
   where
-    by-test : (b : Bool) → eqb f 0 ≡ b → flag_of (not b) ≡ f
-    by-test true e = sym (eqb-true _ _ e)
-    by-test false e = let n : f ≡ 0 → ⊥ = eqb-false _ _ e in omega (arith, n)
+    by_test : (b : Bool) → eqb f 0 ≡ b → flag_of (not b) ≡ f
+    by_test true e = sym (eqb-true _ _ e)
+    by_test false e = let n : f ≡ 0 → ⊥ = eqb-false _ _ e in omega (arith, n)
 
 -- The clock that they stand for has these octets.
 pub same_octets : (x : List ℕ) → length x ≡ 8 → Flagged x → octets_of (clock_of x) ≡ x
@@ -67,15 +67,15 @@ same_octets x eight w =
 
 flagged_end : (xs : List ℕ) (f : ℕ) → length xs ≤ 7 → f ≤ 1 → Flagged (xs ++ (f ∷ []))
 unfolding Flagged
-flagged_end xs f h e = by-test (leb 7 (length xs)) refl
+flagged_end xs f h e = by_test (leb 7 (length xs)) refl
   where
-    by-test : (b : Bool) → leb 7 (length xs) ≡ b → get_or (xs ++ (f ∷ [])) 7 0 ≤ 1
-    by-test true t =
+    by_test : (b : Bool) → leb 7 (length xs) ≡ b → get_or (xs ++ (f ∷ [])) 7 0 ≤ 1
+    by_test true t =
         let k : 7 ≤ length xs = leb-true _ _ t in
         let n : length xs ≡ 7 = omega arith in
         let q : get_or (xs ++ (f ∷ [])) 7 0 ≡ f = ap (λ (i : ℕ). get_or (xs ++ (f ∷ [])) i 0) (sym n) ∙ get_or-append_seam xs f [] 0 in
         omega arith
-    by-test false t =
+    by_test false t =
         let k : length xs < 7 = leb-false _ _ t in
         let l : length (xs ++ (f ∷ [])) ≤ 7 = simp length-append (omega arith) in
         let q : get_or (xs ++ (f ∷ [])) 7 0 ≡ 0 = get_or-eq_default (xs ++ (f ∷ [])) 0 {n = 7} l in
@@ -96,37 +96,37 @@ flagged_pick true x y p q = p
 flagged_pick false x y p q = q
 
 module _ (clock m : List ℕ) (w : Flagged clock) where
-  from-command : Flagged (clock_from m)
-  from-command = flagged_end (take 7 (drop 9 m)) 1 (simp length-take (omega arith)) (omega arith)
+  from_command : Flagged (clock_from m)
+  from_command = flagged_end (take 7 (drop 9 m)) 1 (simp length-take (omega arith)) (omega arith)
 
-  flagged-command : (c : Command) (t : Table) → Flagged (command_said clock m c t).clock
+  flagged_command : (c : Command) (t : Table) → Flagged (command_said clock m c t).clock
   unfolding command_said
-  flagged-command c t =
+  flagged_command c t =
       flagged_pick (eqb c.kind 100) _ _ w (flagged_pick (eqb c.kind 101) _ _ w (flagged_pick (eqb c.kind 102) _ _ w (either (eqb c.kind 103))))
     where
       either : (b : Bool) → Flagged (pick b (clock_from m) clock)
-      either true = from-command
+      either true = from_command
       either false = w
 
-  flagged-read : (r : Reading) (t : Table) → Flagged (system_from clock m r t).clock
+  flagged_read : (r : Reading) (t : Table) → Flagged (system_from clock m r t).clock
   unfolding system_from
-  flagged-read LengthOutOfRange t = w
-  flagged-read TypeNotServed t = w
-  flagged-read ObjectsNotWhole t = w
-  flagged-read (Parsed c) t = flagged_pick (is_silent c m) _ _ w (flagged-command c t)
+  flagged_read LengthOutOfRange t = w
+  flagged_read TypeNotServed t = w
+  flagged_read ObjectsNotWhole t = w
+  flagged_read (Parsed c) t = flagged_pick (is_silent c m) _ _ w (flagged_command c t)
 
 -- The clock that is left ends in a flag where the one before did.
 pub flagged_after : (m : List ℕ) (l : Lent) → Flagged l.clock → Flagged (lent_after (system_said l.clock m) l).clock
 unfolding lent_from
-flagged_after m l w = of-parsed (parse l.table)
+flagged_after m l w = of_parsed (parse l.table)
   where
     either : (b : Bool) (x y : Lent) → Flagged x.clock → Flagged y.clock → Flagged (pick b x y).clock
     either true x y p q = p
     either false x y p q = q
 
-    of-parsed : (o : Option Table) → Flagged (lent_from (system_said l.clock m) l o).clock
-    of-parsed none = w
-    of-parsed (some t) = either (is_done (outcome_with (system_said l.clock m t) l)) _ _ (flagged-read l.clock m w (read_as (limit_of t) SystemCommands m) t) w
+    of_parsed : (o : Option Table) → Flagged (lent_from (system_said l.clock m) l o).clock
+    of_parsed none = w
+    of_parsed (some t) = either (is_done (outcome_with (system_said l.clock m t) l)) _ _ (flagged_read l.clock m w (read_as (limit_of t) SystemCommands m) t) w
 
 -- ---- what the entry's contract says
 
@@ -155,5 +155,5 @@ pub refusal_leaves_all : (f : Table → Said) (k : Clock) (t a s : List ℕ) (r 
     → Leaves as_it_is f (lent t (octets_of k) a s) r (lent t' (octets_of k') a' s') → is_done r.outcome ≡ false → (k' ≡ k) × (t' ≡ t) × (a' ≡ a)
 refusal_leaves_all f k t a s r k' t' a' s' p e =
     let l = lent t (octets_of k) a s in
-    let z = p.leaves ∙ (refused-says-nothing f l (ap (λ (x : Answered). is_done x.outcome) (sym p.answers) ∙ e)).2 in
+    let z = p.leaves ∙ (refused_says_nothing f l (ap (λ (x : Answered). is_done x.outcome) (sym p.answers) ∙ e)).2 in
     (octets_tell k' k (ap (λ (x : Lent). x.clock) z), ap (λ (x : Lent). x.table) z, ap (λ (x : Lent). x.answer) z)

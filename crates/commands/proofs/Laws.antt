@@ -32,7 +32,7 @@ use Rattle.answers.specs.declared.Answered.{Answered}
 use Rattle.answers.specs.Said.{Said, Lent, lent, size, fronted, outcome_with, answered_from, lent_from, Leaves, as_it_is, nothing}
 use Rattle.answers.specs.Process.{Update, Proposal, update_octets, updates_at, updates_in, proposal_ok, process_cause_taken, told_by, process_reply, process_from, process_said}
 use Rattle.answers.proofs.Proposals.{whole_reply, length_confirmed}
-use Rattle.answers.proofs.Ends.{front_is, ends-nothing, ends-refused, ends-alike}
+use Rattle.answers.proofs.Ends.{front_is, ends_nothing, ends_refused, ends_alike}
 use Rattle.updates.specs.Updates.{left_by_all}
 use Rattle.commands.specs.Entry.{proposal_of}
 
@@ -44,23 +44,23 @@ gives f l l' r r' e h = record { answers = e ∙ h.answers; leaves = h.leaves }
 
 module _ (f : Table → Said) (l : Lent) (w : well_formed l.table ≡ true) (done : (f (table_of l.table)).outcome ≡ Done) where
   -- What is told does not fit: 5.
-  ends-untold : length l.spontaneous < size (f (table_of l.table)).told → Leaves as_it_is f l (nothing SpontaneousShort) l
+  ends_untold : length l.spontaneous < size (f (table_of l.table)).told → Leaves as_it_is f l (nothing SpontaneousShort) l
   unfolding outcome_with
-  ends-untold h = ends-nothing f l w SpontaneousShort (simp (done, lt-leb _ _ h)) refl
+  ends_untold h = ends_nothing f l w SpontaneousShort (simp (done, lt-leb _ _ h)) refl
 
   -- What is told fits, the answer does not: 4.
-  ends-unanswered : size (f (table_of l.table)).told ≤ length l.spontaneous → length l.answer < size (f (table_of l.table)).answer
+  ends_unanswered : size (f (table_of l.table)).told ≤ length l.spontaneous → length l.answer < size (f (table_of l.table)).answer
       → Leaves as_it_is f l (nothing AnswerShort) l
   unfolding outcome_with
-  ends-unanswered k h = ends-nothing f l w AnswerShort (simp (done, le-leb _ _ k, lt-leb _ _ h)) refl
+  ends_unanswered k h = ends_nothing f l w AnswerShort (simp (done, le-leb _ _ k, lt-leb _ _ h)) refl
 
-  both-fit : size (f (table_of l.table)).told ≤ length l.spontaneous → size (f (table_of l.table)).answer ≤ length l.answer
+  both_fit : size (f (table_of l.table)).told ≤ length l.spontaneous → size (f (table_of l.table)).answer ≤ length l.answer
       → outcome_with (f (table_of l.table)) l ≡ Done
   unfolding outcome_with
-  both-fit k h = simp (done, le-leb _ _ k, le-leb _ _ h)
+  both_fit k h = simp (done, le-leb _ _ k, le-leb _ _ h)
 
   -- Both fit.
-  ends-told : (n k : ℕ) (l' : Lent) → n ≡ size (f (table_of l.table)).answer → n ≤ length l.answer
+  ends_told : (n k : ℕ) (l' : Lent) → n ≡ size (f (table_of l.table)).answer → n ≤ length l.answer
       → k ≡ size (f (table_of l.table)).told → k ≤ length l.spontaneous
       → l' ≡ record {
         table = holding l.table (table_of l.table) (f (table_of l.table)).after;
@@ -70,8 +70,8 @@ module _ (f : Table → Said) (l : Lent) (w : well_formed l.table ≡ true) (don
       }
       → Leaves as_it_is f l (record { outcome = Done; octets = n; spontaneous = k }) l'
   unfolding answered_from lent_from
-  ends-told n k l' en ln ek lk s =
-      let d : outcome_with (f (table_of l.table)) l ≡ Done = both-fit (omega arith) (omega arith) in
+  ends_told n k l' en ln ek lk s =
+      let d : outcome_with (f (table_of l.table)) l ≡ Done = both_fit (omega arith) (omega arith) in
       let p : parse l.table ≡ some (table_of l.table) = parse_some l.table w in
       record {
         answers = sym (ap (answered_from f l) p ∙ simp d (λ j. record { outcome = Done; octets = sym en j; spontaneous = sym ek j }));
@@ -104,66 +104,66 @@ module _ (l : Lent) (negative : Bool) (kind : ℕ) (objects us : List ℕ) (c : 
 
   module _ (w : well_formed l.table ≡ true) where
     -- The cause is not taken: 1.
-    pub process-silent : process_cause_taken c.cause ≡ false → Leaves as_it_is said l (nothing Silent) l
+    pub process_silent : process_cause_taken c.cause ≡ false → Leaves as_it_is said l (nothing Silent) l
     unfolding process_from
-    process-silent e = ends-refused said l w Silent (simp e) refl
+    process_silent e = ends_refused said l w Silent (simp e) refl
 
     module _ (taken : process_cause_taken c.cause ≡ true) where
       -- A bad proposal: 6.
-      pub process-bad : proposal_ok (limit_of (table_of l.table)) kind objects ≡ false → Leaves as_it_is said l (nothing BadProposal) l
+      pub process_bad : proposal_ok (limit_of (table_of l.table)) kind objects ≡ false → Leaves as_it_is said l (nothing BadProposal) l
       unfolding process_from
-      process-bad e = ends-refused said l w BadProposal (simp (taken, e)) refl
+      process_bad e = ends_refused said l w BadProposal (simp (taken, e)) refl
 
       module _ (ok : proposal_ok (limit_of (table_of l.table)) kind objects ≡ true) where
         -- What is said, and the memory with its table.
-        said-done : (said (table_of l.table)).outcome ≡ Done
+        said_done : (said (table_of l.table)).outcome ≡ Done
         unfolding process_from
-        said-done = simp (taken, ok)
+        said_done = simp (taken, ok)
 
-        said-answer : (said (table_of l.table)).answer ≡ confirmed ∷ []
+        said_answer : (said (table_of l.table)).answer ≡ confirmed ∷ []
         unfolding process_from
-        said-answer = simp (taken, ok)
+        said_answer = simp (taken, ok)
 
-        said-told : (said (table_of l.table)).told ≡ tells
+        said_told : (said (table_of l.table)).told ≡ tells
         unfolding process_from
-        said-told = simp (taken, ok, updates_read negative us)
+        said_told = simp (taken, ok, updates_read negative us)
 
-        said-after : holding l.table (table_of l.table) (said (table_of l.table)).after ≡ stored
+        said_after : holding l.table (table_of l.table) (said (table_of l.table)).after ≡ stored
         unfolding process_from
-        said-after = simp (taken, ok, updates_read negative us)
+        said_after = simp (taken, ok, updates_read negative us)
 
-        said-clock : (said (table_of l.table)).clock ≡ l.clock
+        said_clock : (said (table_of l.table)).clock ≡ l.clock
         unfolding process_from
-        said-clock = simp (taken, ok)
+        said_clock = simp (taken, ok)
 
-        answer-length : size (said (table_of l.table)).answer ≡ header_octets + length objects
-        answer-length = ap size said-answer ∙ ap length (wire_one confirmed) ∙ length_confirmed c (proposal_of negative kind objects []) (whole_reply _ kind objects ok)
+        answer_length : size (said (table_of l.table)).answer ≡ header_octets + length objects
+        answer_length = ap size said_answer ∙ ap length (wire_one confirmed) ∙ length_confirmed c (proposal_of negative kind objects []) (whole_reply _ kind objects ok)
 
         -- The spontaneous memory is short: 5.
-        pub process-untold : length l.spontaneous < size tells → Leaves as_it_is said l (nothing SpontaneousShort) l
-        process-untold h = let e = ap size said-told in ends-untold said l w said-done (omega arith)
+        pub process_untold : length l.spontaneous < size tells → Leaves as_it_is said l (nothing SpontaneousShort) l
+        process_untold h = let e = ap size said_told in ends_untold said l w said_done (omega arith)
 
         -- The answer memory is short: 4.
-        pub process-unanswered : size tells ≤ length l.spontaneous → length l.answer < header_octets + length objects
+        pub process_unanswered : size tells ≤ length l.spontaneous → length l.answer < header_octets + length objects
             → Leaves as_it_is said l (nothing AnswerShort) l
-        process-unanswered k h =
-            let e = ap size said-told in
-            let f = answer-length in
-            ends-unanswered said l w said-done (omega arith) (omega arith)
+        process_unanswered k h =
+            let e = ap size said_told in
+            let f = answer_length in
+            ends_unanswered said l w said_done (omega arith) (omega arith)
 
         -- Stored, told and confirmed.
-        pub process-done : (table answer spontaneous : List ℕ) (n k : ℕ) → Puts (asdu_octets confirmed) l.answer n answer → header_octets + length objects ≤ length l.answer
+        pub process_done : (table answer spontaneous : List ℕ) (n k : ℕ) → Puts (asdu_octets confirmed) l.answer n answer → header_octets + length objects ≤ length l.answer
             → k ≡ size tells → k ≤ length l.spontaneous
             → table ≡ stored → spontaneous ≡ over l.spontaneous 0 (wire tells)
             → Leaves as_it_is said l (record { outcome = Done; octets = n; spontaneous = k }) (lent table l.clock answer spontaneous)
-        process-done table answer spontaneous n k p ln ek lk et es =
-            let e = ap size said-told in
-            let f = answer-length in
-            let en : n ≡ size (said (table_of l.table)).answer = p.0 ∙ sym (ap size said-answer ∙ ap length (wire_one confirmed)) in
-            let t = et ∙ sym said-after in
-            let a = p.1 ∙ ap (over l.answer 0) (sym (wire_one confirmed)) ∙ front_is l.answer (confirmed ∷ []) ∙ ap (λ (x : List Asdu). fronted x l.answer) (sym said-answer) in
-            let s = es ∙ front_is l.spontaneous tells ∙ ap (λ (x : List Asdu). fronted x l.spontaneous) (sym said-told) in
-            ends-told said l w said-done n k _ en (omega arith) (omega arith) lk (λ j. lent (t j) (sym said-clock j) (a j) (s j))
+        process_done table answer spontaneous n k p ln ek lk et es =
+            let e = ap size said_told in
+            let f = answer_length in
+            let en : n ≡ size (said (table_of l.table)).answer = p.0 ∙ sym (ap size said_answer ∙ ap length (wire_one confirmed)) in
+            let t = et ∙ sym said_after in
+            let a = p.1 ∙ ap (over l.answer 0) (sym (wire_one confirmed)) ∙ front_is l.answer (confirmed ∷ []) ∙ ap (λ (x : List Asdu). fronted x l.answer) (sym said_answer) in
+            let s = es ∙ front_is l.spontaneous tells ∙ ap (λ (x : List Asdu). fronted x l.spontaneous) (sym said_told) in
+            ends_told said l w said_done n k _ en (omega arith) (omega arith) lk (λ j. lent (t j) (sym said_clock j) (a j) (s j))
 
 -- ---- what was read
 
@@ -171,9 +171,9 @@ module _ (l : Lent) (negative : Bool) (kind : ℕ) (objects us : List ℕ) (c : 
 pub process_unread : (l : Lent) (p : Proposal) → well_formed l.table ≡ true → (x : Reading) → OneOf (0 ∷ 1 ∷ 2 ∷ []) (tag_of the_type x)
     → Leaves as_it_is (process_from l.clock p x) l (nothing (outcome_of x)) l
 unfolding process_from
-process_unread l p w LengthOutOfRange k = ends-refused _ l w (outcome_of LengthOutOfRange) refl refl
-process_unread l p w TypeNotServed k = ends-refused _ l w (outcome_of TypeNotServed) refl refl
-process_unread l p w ObjectsNotWhole k = ends-refused _ l w (outcome_of ObjectsNotWhole) refl refl
+process_unread l p w LengthOutOfRange k = ends_refused _ l w (outcome_of LengthOutOfRange) refl refl
+process_unread l p w TypeNotServed k = ends_refused _ l w (outcome_of TypeNotServed) refl refl
+process_unread l p w ObjectsNotWhole k = ends_refused _ l w (outcome_of ObjectsNotWhole) refl refl
 process_unread l p w (Parsed c) k = absurd (⊎_elim (λ e. omega arith) (λ v. ⊎_elim (λ e. omega arith) (λ e. omega arith) v) k)
 
 -- What is met of what was read is met of the ASDU.
@@ -181,4 +181,4 @@ pub process_read : (l l' : Lent) (p : Proposal) (m : List ℕ) (r : Answered) (x
     → x ≡ read_as (limit_of (table_of l.table)) ProcessCommands m
     → Leaves as_it_is (process_from l.clock p x) l r l' → Leaves as_it_is (process_said l.clock p m) l r l'
 process_read l l' p m r x w e h =
-    ends-alike (process_from l.clock p x) l w (process_said l.clock p m) (ap (λ (y : Reading). process_from l.clock p y (table_of l.table)) e) r l' h
+    ends_alike (process_from l.clock p x) l w (process_said l.clock p m) (ap (λ (y : Reading). process_from l.clock p y (table_of l.table)) e) r l' h

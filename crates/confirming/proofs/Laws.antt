@@ -31,7 +31,7 @@ use Rattle.report.specs.Order.{points_for}
 use Rattle.limits.specs.declared.outcome.Outcome.TheVariants.{AnswerShort}
 use Rattle.octets.specs.Over.{over}
 use Rattle.octets.proofs.Laws.{over_at}
-use Rattle.answers.proofs.Ends.{sends-nothing, sends-all}
+use Rattle.answers.proofs.Ends.{sends_nothing, sends_all}
 use Rattle.answers.specs.Said.{size, nothing, given, Sends}
 use Rattle.answers.specs.System.{confirmed, terminated, reported}
 use Rattle.table.specs.Table.{Table}
@@ -74,22 +74,22 @@ between m C D T c d ec ed h =
 pub data_short : (out : List ℕ) (before after : ℕ) (xs : List ℕ) → wrote (length out) before after xs ≡ Short
     → (length out < before + (length xs + after)) × (out ≡ written out before after xs)
 unfolding wrote written too_short
-data_short out before after xs e = by-test (ltb (length out) (before + (length xs + after))) refl e
+data_short out before after xs e = by_test (ltb (length out) (before + (length xs + after))) refl e
   where
-    by-test : (b : Bool) → ltb (length out) (before + (length xs + after)) ≡ b → pick b Short (Wrote (length xs)) ≡ Short
+    by_test : (b : Bool) → ltb (length out) (before + (length xs + after)) ≡ b → pick b Short (Wrote (length xs)) ≡ Short
         → (length out < before + (length xs + after)) × (out ≡ pick (ltb (length out) (before + (length xs + after))) out (over out before xs))
-    by-test true t e' = (ltb-true _ _ t, sym (simp t))
-    by-test false t e' = let z : ◌≡◌ {A = ℕ} 0 1 = cc in absurd (omega arith)
+    by_test true t e' = (ltb-true _ _ t, sym (simp t))
+    by_test false t e' = let z : ◌≡◌ {A = ℕ} 0 1 = cc in absurd (omega arith)
 
 pub data_full : (out : List ℕ) (before after k : ℕ) (xs : List ℕ) → wrote (length out) before after xs ≡ Wrote k
     → (k ≡ length xs) × (before + (length xs + after) ≤ length out) × (written out before after xs ≡ over out before xs)
 unfolding wrote written too_short
-data_full out before after k xs e = by-test (ltb (length out) (before + (length xs + after))) refl e
+data_full out before after k xs e = by_test (ltb (length out) (before + (length xs + after))) refl e
   where
-    by-test : (b : Bool) → ltb (length out) (before + (length xs + after)) ≡ b → pick b Short (Wrote (length xs)) ≡ Wrote k
+    by_test : (b : Bool) → ltb (length out) (before + (length xs + after)) ≡ b → pick b Short (Wrote (length xs)) ≡ Wrote k
         → (k ≡ length xs) × (before + (length xs + after) ≤ length out) × (pick (ltb (length out) (before + (length xs + after))) out (over out before xs) ≡ over out before xs)
-    by-test true t e' = let z : ◌≡◌ {A = ℕ} 0 1 = cc in absurd (omega arith)
-    by-test false t e' = (cc, ltb-false _ _ t, simp t)
+    by_test true t e' = let z : ◌≡◌ {A = ℕ} 0 1 = cc in absurd (omega arith)
+    by_test false t e' = (cc, ltb-false _ _ t, simp t)
 
 -- ---- the whole answer
 
@@ -110,23 +110,23 @@ module _ (t : Table) (c : Command) (m types : List ℕ) (cause : ℕ) (sel : Sel
   around = first_element + c.element
 
   -- the octets of the whole, part by part
-  reported-octets : wire (reported t c m types cause sel) ≡ asdu_octets (confirmed c m) ++ (asked ++ asdu_octets (terminated c m))
+  reported_octets : wire (reported t c m types cause sel) ≡ asdu_octets (confirmed c m) ++ (asked ++ asdu_octets (terminated c m))
   unfolding reported
-  reported-octets = wire_between (confirmed c m) (report (limit_of t) types cause c.ca (selected (selects sel) (points_for c.ca t.stations))) (terminated c m)
+  reported_octets = wire_between (confirmed c m) (report (limit_of t) types cause c.ca (selected (selects sel) (points_for c.ca t.stations))) (terminated c m)
 
-  length-reported : size (reported t c m types cause sel) ≡ around + (length asked + around)
-  length-reported =
+  length_reported : size (reported t c m types cause sel) ≡ around + (length asked + around)
+  length_reported =
       let a = length_confirmation c m 7 false h in
       let b = length_confirmation c m 10 false h in
-      ap length reported-octets ∙ simp length-append (omega arith)
+      ap length reported_octets ∙ simp length-append (omega arith)
 
   -- There is no room: nothing is written.
   pub no_room : wrote (length out) around around asked ≡ Short → (out' : List ℕ) → out' ≡ written out around around asked
       → Sends (reported t c m types cause sel) out (nothing AnswerShort) out'
   no_room e out' f =
       let s = data_short out around around asked e in
-      let l = length-reported in
-      let z = sends-nothing (reported t c m types cause sel) out (omega (arith, s.0)) in
+      let l = length_reported in
+      let z = sends_nothing (reported t c m types cause sel) out (omega (arith, s.0)) in
       record { answers = z.answers; leaves = f ∙ sym s.1 ∙ z.leaves }
 
   -- There is room for all.
@@ -134,12 +134,12 @@ module _ (t : Table) (c : Command) (m types : List ℕ) (cause : ℕ) (sel : Sel
   has_room k e = let s = data_full out around around k asked e in omega (arith, s.0, s.1)
 
   -- And the data, the confirmation, the termination make the whole.
-  pub all-written : (k : ℕ) → wrote (length out) around around asked ≡ Wrote k → (out₁ out₂ out₃ : List ℕ) → out₁ ≡ written out around around asked
+  pub all_written : (k : ℕ) → wrote (length out) around around asked ≡ Wrote k → (out₁ out₂ out₃ : List ℕ) → out₁ ≡ written out around around asked
       → out₂ ≡ over out₁ 0 (asdu_octets (confirmed c m)) → out₃ ≡ over out₂ (around + k) (asdu_octets (terminated c m))
       → Sends (reported t c m types cause sel) out (given (around + (k + around))) out₃
-  all-written k e out₁ out₂ out₃ e₁ e₂ e₃ =
+  all_written k e out₁ out₂ out₃ e₁ e₂ e₃ =
       let s = data_full out around around k asked e in
-      let l = length-reported in
+      let l = length_reported in
       let lc = length_confirmation c m 7 false h in
       let lt = length_confirmation c m 10 false h in
       let room = s.1 in
@@ -149,5 +149,5 @@ module _ (t : Table) (c : Command) (m types : List ℕ) (cause : ℕ) (sel : Sel
       let o₂ : out₂ ≡ over (over out around asked) 0 C = e₂ ∙ ap (λ (x : List ℕ). over x 0 C) (e₁ ∙ s.2) in
       let o₃ = e₃ ∙ (λ j. over (o₂ j) (around + n j) T) in
       let w = between out C asked T around (length asked) lc refl (omega arith) in
-      sends-all (reported t c m types cause sel) out (around + (k + around)) out₃ (omega arith) (omega arith)
-      (o₃ ∙ w ∙ ap (over out 0) (sym reported-octets))
+      sends_all (reported t c m types cause sel) out (around + (k + around)) out₃ (omega arith) (omega arith)
+      (o₃ ∙ w ∙ ap (over out 0) (sym reported_octets))

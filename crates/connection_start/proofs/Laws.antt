@@ -20,7 +20,7 @@ use Rattle.report.proofs.Single.{length_end}
 use Rattle.limits.specs.declared.outcome.Outcome.TheVariants.{AnswerShort}
 use Rattle.answers.specs.Said.{lent, Leaves, as_it_is, nothing, given}
 use Rattle.answers.specs.Start.{start_said}
-use Rattle.answers.proofs.Ends.{one-nothing, one-all, ends-says}
+use Rattle.answers.proofs.Ends.{one_nothing, one_all, ends_says}
 use Rattle.connection_start.specs.Starting.{common_address_at}
 
 -- ---- the turns of the loop over the stations
@@ -62,16 +62,16 @@ module _ (t a : List ℕ) (o : Octets t) (w : well_formed t ≡ true) where
   end = end_of_initialization_asdu (station_common_address (table_of t).stations)
 
   -- Fewer than ten octets of room: 4.
-  pub start-short : length a < 10 → Leaves as_it_is (start_said []) (lent t [] a []) (nothing AnswerShort) (lent t [] a [])
-  start-short h =
+  pub start_short : length a < 10 → Leaves as_it_is (start_said []) (lent t [] a []) (nothing AnswerShort) (lent t [] a [])
+  start_short h =
       let n = length_end (station_common_address (table_of t).stations) in
-      ends-says (start_said []) (lent t [] a []) w o (end ∷ []) [] refl (nothing AnswerShort) [] a (one-nothing end a (omega arith)) refl
+      ends_says (start_said []) (lent t [] a []) w o (end ∷ []) [] refl (nothing AnswerShort) [] a (one_nothing end a (omega arith)) refl
 
   -- Ten octets at the front.
-  pub start-done : 10 ≤ length a → (ca n : ℕ) (a' : List ℕ) → ca ≡ common_address_at t (stations_from t) (stations_in t)
+  pub start_done : 10 ≤ length a → (ca n : ℕ) (a' : List ℕ) → ca ≡ common_address_at t (stations_from t) (stations_in t)
       → Puts (asdu_octets (end_of_initialization_asdu ca)) a n a' → Leaves as_it_is (start_said []) (lent t [] a []) (given n) (lent t [] a' [])
-  start-done h ca n a' c p =
+  start_done h ca n a' c p =
       let x = ap (λ (y : ℕ). asdu_octets (end_of_initialization_asdu y)) (c ∙ common_address_law t) in
       let l = length_end (station_common_address (table_of t).stations) in
-      ends-says (start_said []) (lent t [] a []) w o (end ∷ []) [] refl (given n) [] a'
-      (one-all end a n a' (omega arith) (p.0 ∙ ap length x) (p.1 ∙ ap (over a 0) x)) refl
+      ends_says (start_said []) (lent t [] a []) w o (end ∷ []) [] refl (given n) [] a'
+      (one_all end a n a' (omega arith) (p.0 ∙ ap length x) (p.1 ∙ ap (over a 0) x)) refl

@@ -17,8 +17,8 @@ use Rattle.report.specs.Packing.{selected, joined, Each, counted}
 use Rattle.report.specs.Selection.{selects, among, StrictlyAscending, interrogation_types, counter_types}
 use Rattle.report.specs.Report.{object_of, of_kind, ordered, run, report}
 use Rattle.report.specs.Order.{Climbing}
-use Rattle.report.proofs.Each.{each-selected, each_both, selected_pass}
-use Rattle.report.proofs.Report.{Whole, report-headers, report-objects, run-full, report-fits}
+use Rattle.report.proofs.Each.{each_selected, each_both, selected_pass}
+use Rattle.report.proofs.Report.{Whole, report_headers, report_objects, run_full, report_fits}
 use Rattle.report.proofs.Ordering.{ordered_each, ordered_among, ordered_in_order, rising_climbs, climbing_selected, each_once}
 use Rattle.report.proofs.Cases.{interrogation_ascending, counter_ascending}
 use Rattle.faithful.specs.Faithful.{Faithful}
@@ -45,11 +45,11 @@ pub faithful : (limit : ℕ) → 25 ≤ limit → (types : List ℕ) → Strictl
     → Faithful limit types cause ca test ps
 faithful limit high types up cause ca test ps r =
     let c : Climbing ps = rising_climbs 0 ps r in
-    let w : Each Whole (selected test ps) = each-selected Whole test ps (rising_whole 0 ps r) in
+    let w : Each Whole (selected test ps) = each_selected Whole test ps (rising_whole 0 ps r) in
     record {
       octets = by_octets limit types cause ca (selected test ps);
-      headers = report-headers limit high types cause ca (selected test ps);
-      objects = report-objects limit high types cause ca (selected test ps);
+      headers = report_headers limit high types cause ca (selected test ps);
+      objects = report_objects limit high types cause ca (selected test ps);
       order = ordered_in_order types up (selected test ps) (climbing_selected test ps c);
       once = λ before after p e t a.
           subst (λ (l : List Point). counted (λ (q : Point). eqb q.ioa p.ioa) (ordered types (selected test l)) ≡ 1) (sym e)
@@ -59,8 +59,8 @@ faithful limit high types up cause ca test ps r =
           (ordered_each (λ p. test p ≡ true) types (selected test ps) (selected_pass test ps))
           (ordered_among types (selected test ps));
       runs = by_runs limit types cause ca (selected test ps);
-      full = λ kind. run-full limit high cause ca kind (map object_of (of_kind kind (selected test ps)));
-      short = report-fits limit high types cause ca (selected test ps) w;
+      full = λ kind. run_full limit high cause ca kind (map object_of (of_kind kind (selected test ps)));
+      short = report_fits limit high types cause ca (selected test ps) w;
     }
 
 -- a global or group interrogation of a station, by the standard's length limit

@@ -1,5 +1,5 @@
 -- A local array of n records lent as a `&[R]` for a lifetime of the caller's, and its room had back once that is over. It says nothing of the crate, and can be copied as it stands.
---     lends-array      an array in a local  ⊢ ⇛ ∃ γ. own (the `&κ [R]` on it) ∗ the lender's part
+--     lends_array      an array in a local  ⊢ ⇛ ∃ γ. own (the `&κ [R]` on it) ∗ the lender's part
 --     array_back       [†κ] ∗ the lender's part  ⊢ ⇛ room for the array
 -- Assumes `Logic`.
 use mathlib.Core.Path.{refl, sym, subst}
@@ -40,9 +40,9 @@ module _ (R : RattleType) where
 module _ {M : Type 1} {𝓤 : Ura M} (𝓛 : Logic 𝓤) (R : RattleType) (one : Single R.mir) (n : ℕ) (xs : List R.Denot) (b : ℕ) (κ : Lft) where
   open 𝓛 use {H, A}
 
-  pub lends-array : (v : Val) (ℓ : Lifetime) → Room R n → ent 𝓤 (sep 𝓤 (H.at full_share (array_ty R n) b 0 v) (sem 𝓛 ((Array R n).own_val xs (v ∷ []))))
+  pub lends_array : (v : Val) (ℓ : Lifetime) → Room R n → ent 𝓤 (sep 𝓤 (H.at full_share (array_ty R n) b 0 v) (sem 𝓛 ((Array R n).own_val xs (v ∷ []))))
       (H.⇛ (ex 𝓤 (λ (γ : GName). sep 𝓤 (sem 𝓛 ((ShrSlice ℓ κ R).own_val (at R b γ xs) (slice_val (b, 0) n ∷ []))) (A.lent κ (Kept R n xs b)))))
-  lends-array v ℓ room =
+  lends_array v ℓ room =
       qed 𝓛 (‵ (fat full_share (array_ty R n) b 0 v) ∷ ‵ ((Array R n).own_val xs (v ∷ [])) ∷ []) ∵ updating ! $
       use2 𝓛 (‵ (part_at (Array R n) full_share xs b 0)) (part_in 𝓛 (Array R n) refl full_share xs b 0 v) $
       use1 𝓛 (‵ (Kept R n xs b)) (Array-apart 𝓛 R full_share one n xs b 0) $ fsplit ! $ feq_l ! (λ e.

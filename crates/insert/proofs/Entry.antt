@@ -7,7 +7,7 @@ use Rattle.limits.specs.Test.{total}
 use Rattle.limits.specs.Share.{held_of, admission_in, Sound}
 use Rattle.limits.specs.declared.share.Share.{Share}
 use Rattle.limits.specs.declared.share.Admission.TheVariants.{Admitted}
-use Rattle.limits.proofs.Shares.{admitted-has-place}
+use Rattle.limits.proofs.Shares.{admitted_has_place}
 use Rattle.table.specs.Table.{Station, Table, held, share_of}
 use Rattle.table.proofs.Parse.{Good}
 use Rattle.table.proofs.Shares.{good_sound, total_held}
@@ -22,6 +22,6 @@ admitted_room t ca s g w a =
     let A : List Share = map share_of w.after in
     let e : map share_of t.stations ≡ B ++ (share_of s ∷ A) = ap (map share_of) w.split ∙ shares_split w.before s w.after in
     let place : total held_of (B ++ (share_of s ∷ A)) < k =
-    admitted-has-place k B (share_of s) A (subst (Sound k) e (good_sound t g)) (ap (λ (l : List Share). admission_in k l (share_of s)) (sym e) ∙ a) in
+    admitted_has_place k B (share_of s) A (subst (Sound k) e (good_sound t g)) (ap (λ (l : List Share). admission_in k l (share_of s)) (sym e) ∙ a) in
     let h : total held t.stations ≡ total held_of (B ++ (share_of s ∷ A)) = sym (total_held t.stations) ∙ ap (total held_of) e in
     omega arith

@@ -80,13 +80,13 @@ module _ (t : Table) (before : List Station) (s : Station) (after : List Station
       image_at t before s after n rest count
       ∙ (λ j. head t.settings k S n ++ (bodies before ++ (ps j ++ (bodies after ++ (z j ++ (entries before ++ (F ++ (entries after ++ rest))))))))
 
-  cut-added : image (with_stations (before ++ (with_points (insert_in p) s ∷ after)) t) ++ rest
+  cut_added : image (with_stations (before ++ (with_points (insert_in p) s ∷ after)) t) ++ rest
       ≡ head t.settings k (length before + suc (length after)) (n + 1) ++ (bodies before
       ++ ((places_of s.ca below ++ (place_of s.ca p ++ places_of s.ca above)) ++ (bodies after
       ++ (replicate (48 * (k - (n + 1))) 0
       ++ (entries before ++ ((six s.ca s.reservation s.ceiling ++ pair (held s + 1)) ++ (entries after ++ rest)))))))
   unfolding six below above insert_in
-  cut-added =
+  cut_added =
       let S : ℕ = length before + suc (length after) in
       let s' : Station = with_points (insert_in p) s in
       let h : length (insert_in p s.points) ≡ held s + 1 = insert_length p s.points in
@@ -98,12 +98,12 @@ module _ (t : Table) (before : List Station) (s : Station) (after : List Station
       ∙ (λ j. head t.settings k S (n + 1) ++ (bodies before ++ (ps j ++ (bodies after ++ (replicate (48 * (k - (n + 1))) 0
       ++ (entries before ++ (eight s.ca s.reservation s.ceiling (h j) ++ (entries after ++ rest))))))))
 
-  placed-cut : (at : ℕ) → at ≡ 64 + 48 * (total held before + seek_in p.ioa s.points)
+  placed_cut : (at : ℕ) → at ≡ 64 + 48 * (total held before + seek_in p.ioa s.points)
       → over (over (put_in (image (with_stations (before ++ (s ∷ after)) t) ++ rest) at (64 + 48 * n) (place_of s.ca p))
       (64 + 48 * k + 8 * length before + 6) (pair (held s + 1))) 8 (pair (n + 1))
       ≡ image (with_stations (before ++ (with_points (insert_in p) s ∷ after)) t) ++ rest
   unfolding six below above
-  placed-cut at e =
+  placed_cut at e =
       let S : ℕ = length before + suc (length after) in
       let j : ℕ = seek_in p.ioa s.points in
       let hj : j ≤ held s = seek_le p.ioa s.points in
@@ -124,7 +124,7 @@ module _ (t : Table) (before : List Station) (s : Station) (after : List Station
       ap (λ (l : List ℕ). over (over (put_in l at (64 + 48 * n) (place_of s.ca p)) (64 + 48 * k + 8 * length before + 6) (pair (held s + 1))) 8 (pair (n + 1))) cut
       ∙ ap (λ (l : List ℕ). over l 8 (pair (n + 1))) moved
       ∙ head_over t.settings k S n (n + 1) (bodies before ++ ((P ++ (place_of s.ca p ++ Q)) ++ (bodies after ++ (Z ++ (entries before ++ ((six' ++ pair (held s + 1)) ++ R))))))
-      ∙ sym cut-added
+      ∙ sym cut_added
 
 -- Putting a point in at its place in a station makes of a table's image the image of the table with the point.
 pub insert_image : (t : Table) (rest : List ℕ) (ca : ℕ) (p : Point) (s : Station) (w : Found ca t.stations s) (i h at : ℕ) → Good t
@@ -138,7 +138,7 @@ insert_image t rest ca p s w i h at g room z =
     let same : image t ≡ image (with_stations (w.before ++ (s ∷ w.after)) t) = λ j. image (with_stations (w.split j) t) in
     (λ j. over (over (put_in m at (64 + 48 * l.is_n j) (place_of (sym w.is_ca j) p)) (64 + 48 * l.is_k j + 8 * z.index j + 6) (pair (z.count j + 1))) 8 (pair (l.is_n j + 1)))
     ∙ (λ j. over (over (put_in (same j ++ rest) at (64 + 48 * n) (place_of s.ca p)) (64 + 48 * K + 8 * length w.before + 6) (pair (held s + 1))) 8 (pair (n + 1)))
-    ∙ placed-cut t w.before s w.after p n rest (ap (total held) (sym w.split)) room at z.place
+    ∙ placed_cut t w.before s w.after p n rest (ap (total held) (sym w.split)) room at z.place
     ∙ (λ j. image (with_stations (sym (stations_split t ca (insert_in p) s w) j) t) ++ rest)
 
 -- The same of a memory that holds a table: what lies past the table's octets stays.

@@ -47,47 +47,47 @@ counter_slots = (omega arith, slots_from counter_types refl)
 -- ---- what each qualifier chooses
 
 module _ (q : ℕ) where
-  pub asks-all : q ≡ 20 → interrogated q ≡ Selected Every
-  asks-all e = simp (eq-eqb _ _ e)
+  pub asks_all : q ≡ 20 → interrogated q ≡ Selected Every
+  asks_all e = simp (eq-eqb _ _ e)
 
-  pub asks-none-below : (q ≡ 20 → ⊥) → q < 21 → interrogated q ≡ Denied
+  pub asks_none_below : (q ≡ 20 → ⊥) → q < 21 → interrogated q ≡ Denied
   unfolding ◌&◌
-  asks-none-below n h = simp (ne_eqb _ _ n, lt-leb 21 q h)
+  asks_none_below n h = simp (ne_eqb _ _ n, lt-leb 21 q h)
 
-  pub asks-none-above : (q ≡ 20 → ⊥) → 21 ≤ q → 36 < q → interrogated q ≡ Denied
+  pub asks_none_above : (q ≡ 20 → ⊥) → 21 ≤ q → 36 < q → interrogated q ≡ Denied
   unfolding ◌&◌
-  asks-none-above n l h = simp (ne_eqb _ _ n, le-leb 21 q l, lt-leb q 36 h)
+  asks_none_above n l h = simp (ne_eqb _ _ n, le-leb 21 q l, lt-leb q 36 h)
 
-  pub asks-group : (q ≡ 20 → ⊥) → 21 ≤ q → q ≤ 36 → interrogated q ≡ Selected (Group (q - 20))
+  pub asks_group : (q ≡ 20 → ⊥) → 21 ≤ q → q ≤ 36 → interrogated q ≡ Selected (Group (q - 20))
   unfolding ◌&◌
-  asks-group n l h = simp (ne_eqb _ _ n, le-leb 21 q l, le-leb q 36 h)
+  asks_group n l h = simp (ne_eqb _ _ n, le-leb 21 q l, le-leb q 36 h)
 
-  pub chooses-all : q % 64 ≡ 5 → chosen q ≡ Selected Every
-  chooses-all e = simp (eq-eqb _ _ e)
+  pub chooses_all : q % 64 ≡ 5 → chosen q ≡ Selected Every
+  chooses_all e = simp (eq-eqb _ _ e)
 
-  pub chooses-none-below : (q % 64 ≡ 5 → ⊥) → q % 64 < 1 → chosen q ≡ Denied
+  pub chooses_none_below : (q % 64 ≡ 5 → ⊥) → q % 64 < 1 → chosen q ≡ Denied
   unfolding ◌&◌
-  chooses-none-below n h = simp (ne_eqb _ _ n, lt-leb 1 (q % 64) h)
+  chooses_none_below n h = simp (ne_eqb _ _ n, lt-leb 1 (q % 64) h)
 
-  pub chooses-none-above : (q % 64 ≡ 5 → ⊥) → 1 ≤ q % 64 → 4 < q % 64 → chosen q ≡ Denied
+  pub chooses_none_above : (q % 64 ≡ 5 → ⊥) → 1 ≤ q % 64 → 4 < q % 64 → chosen q ≡ Denied
   unfolding ◌&◌
-  chooses-none-above n l h = simp (ne_eqb _ _ n, le-leb 1 (q % 64) l, lt-leb (q % 64) 4 h)
+  chooses_none_above n l h = simp (ne_eqb _ _ n, le-leb 1 (q % 64) l, lt-leb (q % 64) 4 h)
 
-  pub chooses-group : (q % 64 ≡ 5 → ⊥) → 1 ≤ q % 64 → q % 64 ≤ 4 → chosen q ≡ Selected (CounterGroup (q % 64))
+  pub chooses_group : (q % 64 ≡ 5 → ⊥) → 1 ≤ q % 64 → q % 64 ≤ 4 → chosen q ≡ Selected (CounterGroup (q % 64))
   unfolding ◌&◌
-  chooses-group n l h = simp (ne_eqb _ _ n, le-leb 1 (q % 64) l, le-leb (q % 64) 4 h)
+  chooses_group n l h = simp (ne_eqb _ _ n, le-leb 1 (q % 64) l, le-leb (q % 64) 4 h)
 
   -- What is selected has a cause of six bits.
-  pub interrogated-cause : CauseOf (interrogated q) q
-  interrogated-cause = by_tests (eqb q 20) refl (leb 21 q & leb q 36) refl
+  pub interrogated_cause : CauseOf (interrogated q) q
+  interrogated_cause = by_tests (eqb q 20) refl (leb 21 q & leb q 36) refl
     where
       by_tests : (a : Bool) → eqb q 20 ≡ a → (b : Bool) → leb 21 q & leb q 36 ≡ b → CauseOf (pick a (Selected Every) (pick b (Selected (Group (q - 20))) Denied)) q
       by_tests true e b f = let z : q ≡ 20 = eqb-true _ _ e in omega arith
       by_tests false e true f = let z : q ≤ 36 = leb-true _ _ (both (leb 21 q) _ f).1 in omega arith
       by_tests false e false f = tt
 
-  pub chosen-cause : CauseOf (chosen q) (counter_cause q)
-  chosen-cause = by_tests (eqb (q % 64) 5) refl (leb 1 (q % 64) & leb (q % 64) 4) refl
+  pub chosen_cause : CauseOf (chosen q) (counter_cause q)
+  chosen_cause = by_tests (eqb (q % 64) 5) refl (leb 1 (q % 64) & leb (q % 64) 4) refl
     where
       by_tests : (a : Bool) → eqb (q % 64) 5 ≡ a → (b : Bool) → leb 1 (q % 64) & leb (q % 64) 4 ≡ b
           → CauseOf (pick a (Selected Every) (pick b (Selected (CounterGroup (q % 64))) Denied)) (pick a 37 (37 + q % 64))
@@ -102,19 +102,19 @@ module _ (m : List ℕ) (o : Octets m) (w : well_formed m ≡ true) (ca q : ℕ)
   unchanged : pick (resets q) (reset_by (table_of m) ca choice) (table_of m) ≡ table_of m → m ≡ with_table (λ t. pick (resets q) (reset_by t ca choice) t) m
   unchanged e = printed m o (passed m w) ∙ ap (holding m (table_of m)) (sym e)
 
-  pub no-action : q / 64 < 2 → m ≡ with_table (λ t. pick (resets q) (reset_by t ca choice) t) m
-  no-action h = unchanged (simp (lt-leb 2 (q / 64) h))
+  pub no_action : q / 64 < 2 → m ≡ with_table (λ t. pick (resets q) (reset_by t ca choice) t) m
+  no_action h = unchanged (simp (lt-leb 2 (q / 64) h))
 
-  pub none-chosen : choice ≡ Denied → m ≡ with_table (λ t. pick (resets q) (reset_by t ca choice) t) m
+  pub none_chosen : choice ≡ Denied → m ≡ with_table (λ t. pick (resets q) (reset_by t ca choice) t) m
   unfolding reset_by
-  none-chosen e = unchanged (ap (λ (x : Choice). pick (resets q) (reset_by (table_of m) ca x) (table_of m)) e ∙ either (resets q))
+  none_chosen e = unchanged (ap (λ (x : Choice). pick (resets q) (reset_by (table_of m) ca x) (table_of m)) e ∙ either (resets q))
     where
       either : (b : Bool) → pick b (table_of m) (table_of m) ≡ table_of m
       either true = refl
       either false = refl
 
-  pub some-chosen : (sel : Selection) → choice ≡ Selected sel → 2 ≤ q / 64
+  pub some_chosen : (sel : Selection) → choice ≡ Selected sel → 2 ≤ q / 64
       → holding m (table_of m) (reset_at (table_of m) ca sel) ≡ with_table (λ t. pick (resets q) (reset_by t ca choice) t) m
   unfolding reset_by
-  some-chosen sel e h =
+  some_chosen sel e h =
       ap (holding m (table_of m)) (sym (ap (λ (x : Choice). pick (resets q) (reset_by (table_of m) ca x) (table_of m)) e ∙ simp (le-leb 2 (q / 64) h)))

@@ -28,14 +28,14 @@ module _ (m : List ℕ) (o : Octets m) (w : well_formed m ≡ true) where
   abbrev Resets : ℕ → Selection → Reach → Type 0
   Resets ca sel r = reset_places sel m r.base r.n ≡ holding m (table_of m) (reset_at (table_of m) ca sel)
 
-  at-seat : (ca : ℕ) (sel : Selection) → eqb ca global_address ≡ false → (s : Seat) → seat_at m ca ≡ s → Resets ca sel (seat_reach s)
-  at-seat ca sel e (Here i first h) f = (station_reset_law m ca i first h sel o w f).memory
-  at-seat ca sel e NotPlanned f = let long = (passed m w).top.long in reset_end sel m 64 0 (omega arith) ∙ (unplanned_reset_law m ca sel o w f (eqb-false _ _ e)).1
+  at_seat : (ca : ℕ) (sel : Selection) → eqb ca global_address ≡ false → (s : Seat) → seat_at m ca ≡ s → Resets ca sel (seat_reach s)
+  at_seat ca sel e (Here i first h) f = (station_reset_law m ca i first h sel o w f).memory
+  at_seat ca sel e NotPlanned f = let long = (passed m w).top.long in reset_end sel m 64 0 (omega arith) ∙ (unplanned_reset_law m ca sel o w f (eqb-false _ _ e)).1
 
-  pub reach-reset : (ca : ℕ) (sel : Selection) → Resets ca sel (reach_of m ca)
+  pub reach_reset : (ca : ℕ) (sel : Selection) → Resets ca sel (reach_of m ca)
   unfolding reach_of
-  reach-reset ca sel = by-test (eqb ca global_address) refl
+  reach_reset ca sel = by_test (eqb ca global_address) refl
     where
-      by-test : (b : Bool) → eqb ca global_address ≡ b → Resets ca sel (pick b (record { base = 64; n = two m 8; every = true }) (seat_reach (seat_at m ca)))
-      by-test true e = (every_reset_law m sel o w).memory ∙ ap (λ (x : ℕ). holding m (table_of m) (reset_at (table_of m) x sel)) (sym (eqb-true _ _ e))
-      by-test false e = at-seat ca sel e (seat_at m ca) refl
+      by_test : (b : Bool) → eqb ca global_address ≡ b → Resets ca sel (pick b (record { base = 64; n = two m 8; every = true }) (seat_reach (seat_at m ca)))
+      by_test true e = (every_reset_law m sel o w).memory ∙ ap (λ (x : ℕ). holding m (table_of m) (reset_at (table_of m) x sel)) (sym (eqb-true _ _ e))
+      by_test false e = at_seat ca sel e (seat_at m ca) refl

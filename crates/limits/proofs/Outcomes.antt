@@ -33,8 +33,8 @@ done_is NotAdmitted e = not_both e
 
 -- where the first fault of two is none, neither is one
 pub first_done : (a b : Outcome) → pick (is_done a) b a ≡ Done → (a ≡ Done) × (b ≡ Done)
-first_done a b e = by-test (is_done a) refl e
+first_done a b e = by_test (is_done a) refl e
   where
-    by-test : (t : Bool) → is_done a ≡ t → pick t b a ≡ Done → (a ≡ Done) × (b ≡ Done)
-    by-test true t e' = (done_is a t, e')
-    by-test false t e' = not_both (sym t ∙ ap is_done e')
+    by_test : (t : Bool) → is_done a ≡ t → pick t b a ≡ Done → (a ≡ Done) × (b ≡ Done)
+    by_test true t e' = (done_is a t, e')
+    by_test false t e' = not_both (sym t ∙ ap is_done e')

@@ -19,11 +19,11 @@ use Rattle.limits.proofs.Tests.{total_append}
 
 -- unmet room is the difference, stopping at zero
 pub unmet_is : (s : Share) → unmet_of s ≡ s.reservation - s.held
-unmet_is s = by-test (ltb s.held s.reservation) refl
+unmet_is s = by_test (ltb s.held s.reservation) refl
   where
-    by-test : (b : Bool) → ltb s.held s.reservation ≡ b → unmet_of s ≡ s.reservation - s.held
-    by-test true e = simp e
-    by-test false e = let h : s.reservation ≤ s.held = ltb-false _ _ e in simp e (omega arith)
+    by_test : (b : Bool) → ltb s.held s.reservation ≡ b → unmet_of s ≡ s.reservation - s.held
+    by_test true e = simp e
+    by_test false e = let h : s.reservation ≤ s.held = ltb-false _ _ e in simp e (omega arith)
 
 pub unmet_at_most_reservation : (s : Share) → unmet_of s ≤ s.reservation
 unmet_at_most_reservation s = omega (arith, unmet_is s)
@@ -45,18 +45,18 @@ take_in_undoes_let_go s h k =
 
 -- One step changes held by at most one, and in its own direction.
 pub take_in_by_one : (s : Share) → (s.held ≤ (taken_in s).held) × ((taken_in s).held ≤ s.held + 1)
-take_in_by_one s = by-test (ltb s.held s.ceiling) refl
+take_in_by_one s = by_test (ltb s.held s.ceiling) refl
   where
-    by-test : (b : Bool) → ltb s.held s.ceiling ≡ b → (s.held ≤ (taken_in s).held) × ((taken_in s).held ≤ s.held + 1)
-    by-test true e = simp e (omega arith)
-    by-test false e = simp e (omega arith)
+    by_test : (b : Bool) → ltb s.held s.ceiling ≡ b → (s.held ≤ (taken_in s).held) × ((taken_in s).held ≤ s.held + 1)
+    by_test true e = simp e (omega arith)
+    by_test false e = simp e (omega arith)
 
 pub let_go_by_one : (s : Share) → ((let_go s).held ≤ s.held) × (s.held ≤ (let_go s).held + 1)
-let_go_by_one s = by-test (ltb 0 s.held) refl
+let_go_by_one s = by_test (ltb 0 s.held) refl
   where
-    by-test : (b : Bool) → ltb 0 s.held ≡ b → ((let_go s).held ≤ s.held) × (s.held ≤ (let_go s).held + 1)
-    by-test true e = simp e (omega arith)
-    by-test false e = simp e (omega arith)
+    by_test : (b : Bool) → ltb 0 s.held ≡ b → ((let_go s).held ≤ s.held) × (s.held ≤ (let_go s).held + 1)
+    by_test true e = simp e (omega arith)
+    by_test false e = simp e (omega arith)
 
 -- ---- the rule, exactly
 
@@ -73,60 +73,60 @@ pub record HasNoRoom (s : Share) (free unmet : ℕ) : Type 0 where
 
 module _ (s : Share) (free unmet : ℕ) where
   -- each answer, by the tests that lead to it
-  admits-reserved : s.held < s.ceiling → s.held < s.reservation → admission_of s free unmet ≡ Admitted
-  admits-reserved p q = simp (lt-ltb _ _ p, lt-ltb _ _ q)
+  admits_reserved : s.held < s.ceiling → s.held < s.reservation → admission_of s free unmet ≡ Admitted
+  admits_reserved p q = simp (lt-ltb _ _ p, lt-ltb _ _ q)
 
-  admits-free : s.held < s.ceiling → s.reservation ≤ s.held → unmet < free → admission_of s free unmet ≡ Admitted
-  admits-free p q r = simp (lt-ltb _ _ p, le-ltb _ _ q, lt-ltb _ _ r)
+  admits_free : s.held < s.ceiling → s.reservation ≤ s.held → unmet < free → admission_of s free unmet ≡ Admitted
+  admits_free p q r = simp (lt-ltb _ _ p, le-ltb _ _ q, lt-ltb _ _ r)
 
   pub no_room : HasNoRoom s free unmet → admission_of s free unmet ≡ NoRoom
   no_room h = simp (lt-ltb _ _ h.below_ceiling, le-ltb _ _ h.met, le-ltb _ _ h.kept)
 
-  pub at-ceiling : s.ceiling ≤ s.held → admission_of s free unmet ≡ CeilingReached
-  at-ceiling p = simp (le-ltb _ _ p)
+  pub at_ceiling : s.ceiling ≤ s.held → admission_of s free unmet ≡ CeilingReached
+  at_ceiling p = simp (le-ltb _ _ p)
 
   pub admitted : HasRoom s free unmet → admission_of s free unmet ≡ Admitted
-  admitted h = ⊎_elim (admits-reserved h.below_ceiling) (λ r. by-test r (ltb s.held s.reservation) refl) h.some_room
+  admitted h = ⊎_elim (admits_reserved h.below_ceiling) (λ r. by_test r (ltb s.held s.reservation) refl) h.some_room
     where
-      by-test : unmet < free → (b : Bool) → ltb s.held s.reservation ≡ b → admission_of s free unmet ≡ Admitted
-      by-test r true e = admits-reserved h.below_ceiling (ltb-true _ _ e)
-      by-test r false e = admits-free h.below_ceiling (ltb-false _ _ e) r
+      by_test : unmet < free → (b : Bool) → ltb s.held s.reservation ≡ b → admission_of s free unmet ≡ Admitted
+      by_test r true e = admits_reserved h.below_ceiling (ltb-true _ _ e)
+      by_test r false e = admits_free h.below_ceiling (ltb-false _ _ e) r
 
   -- what holds of the numbers, and the answer that goes with it
   data Answered : Admission → Type 0 where
-    is-admitted : HasRoom s free unmet → Answered Admitted
-    is-full : s.ceiling ≤ s.held → Answered CeilingReached
-    is-kept : HasNoRoom s free unmet → Answered NoRoom
+    is_admitted : HasRoom s free unmet → Answered Admitted
+    is_full : s.ceiling ≤ s.held → Answered CeilingReached
+    is_kept : HasNoRoom s free unmet → Answered NoRoom
 
   answered : Answered (admission_of s free unmet)
   answered = by_tests (ltb s.held s.ceiling) refl (ltb s.held s.reservation) refl (ltb unmet free) refl
     where
       by_tests : (b : Bool) → ltb s.held s.ceiling ≡ b → (d : Bool) → ltb s.held s.reservation ≡ d → (e : Bool) → ltb unmet free ≡ e
           → Answered (admission_of s free unmet)
-      by_tests true p true q e r = simp (p, q) (is-admitted (record { below_ceiling = ltb-true _ _ p; some_room = inl (ltb-true _ _ q) }))
-      by_tests true p false q true r = simp (p, q, r) (is-admitted (record { below_ceiling = ltb-true _ _ p; some_room = inr (ltb-true _ _ r) }))
+      by_tests true p true q e r = simp (p, q) (is_admitted (record { below_ceiling = ltb-true _ _ p; some_room = inl (ltb-true _ _ q) }))
+      by_tests true p false q true r = simp (p, q, r) (is_admitted (record { below_ceiling = ltb-true _ _ p; some_room = inr (ltb-true _ _ r) }))
       by_tests true p false q false r =
-          simp (p, q, r) (is-kept (record { below_ceiling = ltb-true _ _ p; met = ltb-false _ _ q; kept = ltb-false _ _ r }))
-      by_tests false p d q e r = simp p (is-full (ltb-false _ _ p))
+          simp (p, q, r) (is_kept (record { below_ceiling = ltb-true _ _ p; met = ltb-false _ _ q; kept = ltb-false _ _ r }))
+      by_tests false p d q e r = simp p (is_full (ltb-false _ _ p))
 
   -- the other direction: the answer tells the numbers
-  pub admitted-only : admission_of s free unmet ≡ Admitted → HasRoom s free unmet
-  admitted-only e = told (subst Answered e answered)
+  pub admitted_only : admission_of s free unmet ≡ Admitted → HasRoom s free unmet
+  admitted_only e = told (subst Answered e answered)
     where
       told : Answered Admitted → HasRoom s free unmet
-      told (is-admitted h) = h
+      told (is_admitted h) = h
 
-  pub at-ceiling-only : admission_of s free unmet ≡ CeilingReached → s.ceiling ≤ s.held
-  at-ceiling-only e = told (subst Answered e answered)
+  pub at_ceiling_only : admission_of s free unmet ≡ CeilingReached → s.ceiling ≤ s.held
+  at_ceiling_only e = told (subst Answered e answered)
     where
       told : Answered CeilingReached → s.ceiling ≤ s.held
-      told (is-full h) = h
+      told (is_full h) = h
 
-  pub no-room-only : admission_of s free unmet ≡ NoRoom → HasNoRoom s free unmet
-  no-room-only e = told (subst Answered e answered)
+  pub no_room_only : admission_of s free unmet ≡ NoRoom → HasNoRoom s free unmet
+  no_room_only e = told (subst Answered e answered)
     where
       told : Answered NoRoom → HasNoRoom s free unmet
-      told (is-kept h) = h
+      told (is_kept h) = h
 
 -- ---- a gateway's shares
 
@@ -151,29 +151,29 @@ ceilings_with (x ∷ before) s t after c h = (c.0, ceilings_with before s t afte
 -- what changes with one share: held and unmet room move by at most one, in opposite directions
 module _ (k : ℕ) (before : List Share) (s : Share) (after : List Share) (sound : Sound k (before ++ (s ∷ after))) where
   -- A station holding less than its reservation is admitted, and there is a place for it.
-  pub below-reservation-admitted : s.reservation ≤ s.ceiling → s.held < s.reservation
+  pub below_reservation_admitted : s.reservation ≤ s.ceiling → s.held < s.reservation
       → admission_in k (before ++ (s ∷ after)) s ≡ Admitted
-  below-reservation-admitted plan h =
+  below_reservation_admitted plan h =
       admitted s (free_of k (before ++ (s ∷ after))) (total unmet_of (before ++ (s ∷ after))) (record { below_ceiling = omega arith; some_room = inl h })
 
   -- Whoever is admitted finds a free place.
-  pub admitted-has-place : admission_in k (before ++ (s ∷ after)) s ≡ Admitted
+  pub admitted_has_place : admission_in k (before ++ (s ∷ after)) s ≡ Admitted
       → total held_of (before ++ (s ∷ after)) < k
-  admitted-has-place e =
+  admitted_has_place e =
       let u = sum_at_lem unmet_of before s after in
       let r = sound.room in
       let v = unmet_is s in
       ⊎_elim (λ (h : s.held < s.reservation). omega arith)
       (λ (h : total unmet_of (before ++ (s ∷ after)) < free_of k (before ++ (s ∷ after))). omega arith)
-      (admitted-only s (free_of k (before ++ (s ∷ after))) (total unmet_of (before ++ (s ∷ after))) e).some_room
+      (admitted_only s (free_of k (before ++ (s ∷ after))) (total unmet_of (before ++ (s ∷ after))) e).some_room
 
   -- Taking in a point of an admitted station keeps the shares sound.
-  pub take-in-keeps-sound : admission_in k (before ++ (s ∷ after)) s ≡ Admitted
+  pub take_in_keeps_sound : admission_in k (before ++ (s ∷ after)) s ≡ Admitted
       → Sound k (before ++ (taken_in s ∷ after))
-  take-in-keeps-sound e =
-      let room = admitted-only s (free_of k (before ++ (s ∷ after))) (total unmet_of (before ++ (s ∷ after))) e in
+  take_in_keeps_sound e =
+      let room = admitted_only s (free_of k (before ++ (s ∷ after))) (total unmet_of (before ++ (s ∷ after))) e in
       let below : s.held < s.ceiling = room.below_ceiling in
-      let place = admitted-has-place e in
+      let place = admitted_has_place e in
       let held_is : (taken_in s).held ≡ s.held + 1 = simp (lt-ltb _ _ below) in
       let h = sum_at_lem held_of before s after in
       let h' = sum_at_lem held_of before (taken_in s) after in
@@ -192,8 +192,8 @@ module _ (k : ℕ) (before : List Share) (s : Share) (after : List Share) (sound
       }
 
   -- Letting a point go keeps the shares sound.
-  pub let-go-keeps-sound : Sound k (before ++ (let_go s ∷ after))
-  let-go-keeps-sound =
+  pub let_go_keeps_sound : Sound k (before ++ (let_go s ∷ after))
+  let_go_keeps_sound =
       let by = let_go_by_one s in
       let c : s.held ≤ s.ceiling = ceilings_at before s after sound.ceilings in
       let f = sound.fits in

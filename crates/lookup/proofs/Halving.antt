@@ -20,7 +20,7 @@ use Rattle.table.specs.Change.{seek_in, known, point_in}
 use Rattle.lookup.specs.declared.Bounds.{Bounds}
 use Rattle.lookup.specs.declared.Spot.TheVariants.{Held, Missing}
 use Rattle.lookup.specs.Find.{spot_in, ioa_at, narrowed, halve, spot_at, find_at}
-use Rattle.lookup.proofs.Walk.{nearer, missing-end, missing_at, held_at_lem}
+use Rattle.lookup.proofs.Walk.{nearer, missing_end, missing_at, held_at_lem}
 
 -- ---- halving, on numbers
 
@@ -58,7 +58,7 @@ pub halve_finds : (key : ℕ → ℕ) (x j n : ℕ) → Parted key x j n → (tu
 unfolding halve
 halve_finds key x j n p zero low high a b h l = omega arith
 halve_finds key x j n p (suc turns) low high a b h l =
-    by-test (ltb low high) refl
+    by_test (ltb low high) refl
     (λ less.
     let r = around key x j n low high p a b h less in
     let q = nearer key x low high less in
@@ -66,27 +66,27 @@ halve_finds key x j n p (suc turns) low high a b h l =
     let nearer-by = q.less in
     halve_finds key x j n p turns (narrowed key x low high).low (narrowed key x low high).high r.from r.to (omega arith) (omega arith))
   where
-    by-test : (t : Bool) → ltb low high ≡ t → (low < high → halve key x (narrowed key x low high).low (narrowed key x low high).high turns ≡ j)
+    by_test : (t : Bool) → ltb low high ≡ t → (low < high → halve key x (narrowed key x low high).low (narrowed key x low high).high turns ≡ j)
         → pick t (halve key x (narrowed key x low high).low (narrowed key x low high).high turns) low ≡ j
-    by-test true e again = again (ltb-true _ _ e)
-    by-test false e again = let g : high ≤ low = ltb-false _ _ e in omega arith
+    by_test true e again = again (ltb-true _ _ e)
+    by_test false e again = let g : high ≤ low = ltb-false _ _ e in omega arith
 
 -- the bounds of what halving finds, whatever the numbers
 pub halve_le : (key : ℕ → ℕ) (x turns low high : ℕ) → low ≤ high → halve key x low high turns ≤ high
 unfolding halve
 halve_le key x zero low high h = h
 halve_le key x (suc turns) low high h =
-    by-test (ltb low high) refl
+    by_test (ltb low high) refl
     (λ less.
     let q = nearer key x low high less in
     let to = q.to in
     let ih = halve_le key x turns (narrowed key x low high).low (narrowed key x low high).high q.order in
     omega arith)
   where
-    by-test : (t : Bool) → ltb low high ≡ t → (low < high → halve key x (narrowed key x low high).low (narrowed key x low high).high turns ≤ high)
+    by_test : (t : Bool) → ltb low high ≡ t → (low < high → halve key x (narrowed key x low high).low (narrowed key x low high).high turns ≤ high)
         → pick t (halve key x (narrowed key x low high).low (narrowed key x low high).high turns) low ≤ high
-    by-test true e again = again (ltb-true _ _ e)
-    by-test false e again = h
+    by_test true e again = again (ltb-true _ _ e)
+    by_test false e again = h
 
 -- ---- the IOAs of a station's places
 
@@ -113,42 +113,42 @@ none_below m at low (suc n) r (suc i) h =
 under_seek : (m : List ℕ) (at ioa n i : ℕ) → i < seek_in ioa (points_at m at n) → ioa_at m at i < ioa
 unfolding seek_in points_at
 under_seek m at ioa zero i h = absurd (omega arith)
-under_seek m at ioa (suc n) i h = by-test (leb ioa (three m (at + 3))) refl i h (λ j. under_seek m (at + 48) ioa n j)
+under_seek m at ioa (suc n) i h = by_test (leb ioa (three m (at + 3))) refl i h (λ j. under_seek m (at + 48) ioa n j)
   where
-    by-test : (t : Bool) → leb ioa (three m (at + 3)) ≡ t → (i : ℕ) → i < pick t 0 (suc (seek_in ioa (points_at m (at + 48) n)))
+    by_test : (t : Bool) → leb ioa (three m (at + 3)) ≡ t → (i : ℕ) → i < pick t 0 (suc (seek_in ioa (points_at m (at + 48) n)))
         → ((j : ℕ) → j < seek_in ioa (points_at m (at + 48) n) → ioa_at m (at + 48) j < ioa) → ioa_at m at i < ioa
-    by-test true e i h again = absurd (omega arith)
-    by-test false e zero h again = let f = ioa_here m at in let l : three m (at + 3) < ioa = leb-false _ _ e in omega arith
-    by-test false e (suc i) h again = let f = ioa_next m at i in let ih = again i (omega arith) in omega arith
+    by_test true e i h again = absurd (omega arith)
+    by_test false e zero h again = let f = ioa_here m at in let l : three m (at + 3) < ioa = leb-false _ _ e in omega arith
+    by_test false e (suc i) h again = let f = ioa_next m at i in let ih = again i (omega arith) in omega arith
 
 over_seek : (m : List ℕ) (at ioa low n i : ℕ) → rising low (points_at m at n) ≡ true → seek_in ioa (points_at m at n) ≤ i → i < n → ioa ≤ ioa_at m at i
 unfolding seek_in points_at rising
 over_seek m at ioa low zero i r h k = absurd (omega arith)
 over_seek m at ioa low (suc n) i r h k =
     let later = (both _ _ (both _ _ r).1).1 in
-    by-test (leb ioa (three m (at + 3))) refl i h k later (λ j. over_seek m (at + 48) ioa (three m (at + 3) + 1) n j later)
+    by_test (leb ioa (three m (at + 3))) refl i h k later (λ j. over_seek m (at + 48) ioa (three m (at + 3) + 1) n j later)
   where
-    by-test : (t : Bool) → leb ioa (three m (at + 3)) ≡ t → (i : ℕ) → pick t 0 (suc (seek_in ioa (points_at m (at + 48) n))) ≤ i → i < suc n
+    by_test : (t : Bool) → leb ioa (three m (at + 3)) ≡ t → (i : ℕ) → pick t 0 (suc (seek_in ioa (points_at m (at + 48) n))) ≤ i → i < suc n
         → rising (three m (at + 3) + 1) (points_at m (at + 48) n) ≡ true
         → ((j : ℕ) → seek_in ioa (points_at m (at + 48) n) ≤ j → j < n → ioa ≤ ioa_at m (at + 48) j) → ioa ≤ ioa_at m at i
-    by-test true e zero h k later again = let f = ioa_here m at in let l : ioa ≤ three m (at + 3) = leb-true _ _ e in omega arith
-    by-test true e (suc i) h k later again =
+    by_test true e zero h k later again = let f = ioa_here m at in let l : ioa ≤ three m (at + 3) = leb-true _ _ e in omega arith
+    by_test true e (suc i) h k later again =
         let f = ioa_next m at i in
         let l : ioa ≤ three m (at + 3) = leb-true _ _ e in
         let g : three m (at + 3) + 1 ≤ ioa_at m (at + 48) i = none_below m (at + 48) (three m (at + 3) + 1) n later i (omega arith) in
         omega arith
-    by-test false e zero h k later again = absurd (omega arith)
-    by-test false e (suc i) h k later again = let f = ioa_next m at i in let ih = again i (omega arith) (omega arith) in omega arith
+    by_test false e zero h k later again = absurd (omega arith)
+    by_test false e (suc i) h k later again = let f = ioa_next m at i in let ih = again i (omega arith) (omega arith) in omega arith
 
 -- The plain search stays inside the list.
 pub seek_le : (ioa : ℕ) (ps : List Point) → seek_in ioa ps ≤ length ps
 unfolding seek_in
 seek_le ioa [] = omega arith
-seek_le ioa (q ∷ qs) = by-test (leb ioa q.ioa) (seek_le ioa qs)
+seek_le ioa (q ∷ qs) = by_test (leb ioa q.ioa) (seek_le ioa qs)
   where
-    by-test : (b : Bool) → seek_in ioa qs ≤ length qs → pick b 0 (suc (seek_in ioa qs)) ≤ suc (length qs)
-    by-test true e = omega arith
-    by-test false e = omega arith
+    by_test : (b : Bool) → seek_in ioa qs ≤ length qs → pick b 0 (suc (seek_in ioa qs)) ≤ suc (length qs)
+    by_test true e = omega arith
+    by_test false e = omega arith
 
 -- Halving over rising points finds what the plain search finds.
 pub seek_law : (m : List ℕ) (first n ioa : ℕ) → rising 0 (points_at m first n) ≡ true
@@ -166,14 +166,14 @@ seek_law m first n ioa r =
 known_at : (m : List ℕ) (at ioa n i : ℕ) → i < n → ioa_at m at i ≡ ioa → known ioa (points_at m at n) ≡ true
 unfolding known points_at
 known_at m at ioa zero i h e = absurd (omega arith)
-known_at m at ioa (suc n) i h e = by-test (eqb (three m (at + 3)) ioa) refl i h e (λ j. known_at m (at + 48) ioa n j)
+known_at m at ioa (suc n) i h e = by_test (eqb (three m (at + 3)) ioa) refl i h e (λ j. known_at m (at + 48) ioa n j)
   where
-    by-test : (t : Bool) → eqb (three m (at + 3)) ioa ≡ t → (i : ℕ) → i < suc n → ioa_at m at i ≡ ioa
+    by_test : (t : Bool) → eqb (three m (at + 3)) ioa ≡ t → (i : ℕ) → i < suc n → ioa_at m at i ≡ ioa
         → ((j : ℕ) → j < n → ioa_at m (at + 48) j ≡ ioa → known ioa (points_at m (at + 48) n) ≡ true)
         → pick t true (known ioa (points_at m (at + 48) n)) ≡ true
-    by-test true f i h e again = refl
-    by-test false f zero h e again = absurd (eqb-false _ _ f (sym (ioa_here m at) ∙ e))
-    by-test false f (suc i) h e again = again i (omega arith) (sym (ioa_next m at i) ∙ e)
+    by_test true f i h e again = refl
+    by_test false f zero h e again = absurd (eqb-false _ _ f (sym (ioa_here m at) ∙ e))
+    by_test false f (suc i) h e again = again i (omega arith) (sym (ioa_next m at i) ∙ e)
 
 -- a known point stands at the place of the plain search
 record Stands (m : List ℕ) (at ioa n j : ℕ) (p : Option Point) : Type 0 where
@@ -226,7 +226,7 @@ pub find_law : (m : List ℕ) (first n ioa : ℕ) → rising 0 (points_at m firs
 unfolding find_at spot_in
 find_law m first n ioa r =
     ap (spot_at m first n ioa) (seek_law m first n ioa r)
-    ∙ by-test (known ioa (points_at m first n)) refl
+    ∙ by_test (known ioa (points_at m first n)) refl
   where
     missing : known ioa (points_at m first n) ≡ false → (t : Bool) → ltb (seek_in ioa (points_at m first n)) n ≡ t → (u : Bool) → eqb (ioa_at m first (seek_in ioa (points_at m first n))) ioa ≡ u
         → spot_at m first n ioa (seek_in ioa (points_at m first n)) ≡ Missing (first + 48 * seek_in ioa (points_at m first n))
@@ -235,12 +235,12 @@ find_law m first n ioa r =
         let y : ◌≡◌ {A = ℕ} 0 1 = cc in
         absurd (omega arith)
     missing k true e false f = sym (missing_at m first n ioa (seek_in ioa (points_at m first n)) (ltb-true _ _ e) (eqb-false _ _ f))
-    missing k false e u f = sym (missing-end m first n ioa (seek_in ioa (points_at m first n)) (ltb-false _ _ e))
+    missing k false e u f = sym (missing_end m first n ioa (seek_in ioa (points_at m first n)) (ltb-false _ _ e))
 
-    by-test : (b : Bool) → known ioa (points_at m first n) ≡ b → spot_at m first n ioa (seek_in ioa (points_at m first n))
+    by_test : (b : Bool) → known ioa (points_at m first n) ≡ b → spot_at m first n ioa (seek_in ioa (points_at m first n))
         ≡ pick b (Held (first + 48 * seek_in ioa (points_at m first n))) (Missing (first + 48 * seek_in ioa (points_at m first n)))
-    by-test true e = let s = stands m first ioa 0 n r e in sym (held_at_lem m first n ioa (seek_in ioa (points_at m first n)) s.inside s.is_ioa)
-    by-test false e =
+    by_test true e = let s = stands m first ioa 0 n r e in sym (held_at_lem m first n ioa (seek_in ioa (points_at m first n)) s.inside s.is_ioa)
+    by_test false e =
         missing e (ltb (seek_in ioa (points_at m first n)) n) refl (eqb (ioa_at m first (seek_in ioa (points_at m first n))) ioa) refl
 
 -- What the answer says: the point that stands there, or that there is none; and where, in the order.
@@ -260,27 +260,27 @@ pub record MissingAt (first n ioa at : ℕ) (ps : List Point) : Type 0 where
 pub held_law : (m : List ℕ) (first n ioa at : ℕ) → rising 0 (points_at m first n) ≡ true → find_at m first n ioa ≡ Held at
     → HeldAt m first n ioa at (points_at m first n)
 unfolding spot_in
-held_law m first n ioa at r e = by-test (known ioa (points_at m first n)) refl (sym (find_law m first n ioa r) ∙ e)
+held_law m first n ioa at r e = by_test (known ioa (points_at m first n)) refl (sym (find_law m first n ioa r) ∙ e)
   where
-    by-test : (b : Bool) → known ioa (points_at m first n) ≡ b
+    by_test : (b : Bool) → known ioa (points_at m first n) ≡ b
         → pick b (Held (first + 48 * seek_in ioa (points_at m first n))) (Missing (first + 48 * seek_in ioa (points_at m first n))) ≡ Held at → HeldAt m first n ioa at (points_at m first n)
-    by-test true k f =
+    by_test true k f =
         let s = stands m first ioa 0 n r k in
         let i = s.inside in
         let p : first + 48 * seek_in ioa (points_at m first n) ≡ at = cc in
         record { is_known = k; place = sym p; inside = omega arith; is_point = s.is_point ∙ ap (λ (x : ℕ). some (point_at m x)) p }
-    by-test false k f = let z : ◌≡◌ {A = ℕ} 0 1 = cc in absurd (omega arith)
+    by_test false k f = let z : ◌≡◌ {A = ℕ} 0 1 = cc in absurd (omega arith)
 
 -- No place found: no point has the IOA.
 pub missing_law : (m : List ℕ) (first n ioa at : ℕ) → rising 0 (points_at m first n) ≡ true → find_at m first n ioa ≡ Missing at
     → MissingAt first n ioa at (points_at m first n)
 unfolding spot_in
-missing_law m first n ioa at r e = by-test (known ioa (points_at m first n)) refl (sym (find_law m first n ioa r) ∙ e)
+missing_law m first n ioa at r e = by_test (known ioa (points_at m first n)) refl (sym (find_law m first n ioa r) ∙ e)
   where
-    by-test : (b : Bool) → known ioa (points_at m first n) ≡ b
+    by_test : (b : Bool) → known ioa (points_at m first n) ≡ b
         → pick b (Held (first + 48 * seek_in ioa (points_at m first n))) (Missing (first + 48 * seek_in ioa (points_at m first n))) ≡ Missing at → MissingAt first n ioa at (points_at m first n)
-    by-test true k f = let z : ◌≡◌ {A = ℕ} 0 1 = cc in absurd (omega arith)
-    by-test false k f =
+    by_test true k f = let z : ◌≡◌ {A = ℕ} 0 1 = cc in absurd (omega arith)
+    by_test false k f =
         let p : first + 48 * seek_in ioa (points_at m first n) ≡ at = cc in
         let l = length_points_at m first n in
         let h = seek_le ioa (points_at m first n) in
@@ -289,12 +289,12 @@ missing_law m first n ioa at r e = by-test (known ioa (points_at m first n)) ref
 -- where a missing point would go lies inside, whatever the places hold
 pub spot_inside : (m : List ℕ) (first n ioa at : ℕ) → find_at m first n ioa ≡ Missing at → (first ≤ at) × (at ≤ first + 48 * n)
 unfolding find_at spot_at
-spot_inside m first n ioa at e = by-test (ltb (halve (ioa_at m first) ioa 0 n n) n & eqb (ioa_at m first (halve (ioa_at m first) ioa 0 n n)) ioa) e
+spot_inside m first n ioa at e = by_test (ltb (halve (ioa_at m first) ioa 0 n n) n & eqb (ioa_at m first (halve (ioa_at m first) ioa 0 n n)) ioa) e
   where
-    by-test : (b : Bool) → pick b (Held (first + 48 * halve (ioa_at m first) ioa 0 n n)) (Missing (first + 48 * halve (ioa_at m first) ioa 0 n n)) ≡ Missing at
+    by_test : (b : Bool) → pick b (Held (first + 48 * halve (ioa_at m first) ioa 0 n n)) (Missing (first + 48 * halve (ioa_at m first) ioa 0 n n)) ≡ Missing at
         → (first ≤ at) × (at ≤ first + 48 * n)
-    by-test true f = let z : ◌≡◌ {A = ℕ} 0 1 = cc in absurd (omega arith)
-    by-test false f =
+    by_test true f = let z : ◌≡◌ {A = ℕ} 0 1 = cc in absurd (omega arith)
+    by_test false f =
         let p : first + 48 * halve (ioa_at m first) ioa 0 n n ≡ at = cc in
         let h = halve_le (ioa_at m first) ioa n 0 n (omega arith) in
         (omega arith, omega arith)

@@ -18,13 +18,13 @@ module _ (m : List ℕ) (ca i pb sb n : ℕ) (h : 0 < n) where
   one_more : n ≡ suc (n - 1)
   one_more = omega arith
 
-  pub seat-hit : two m sb ≡ ca → seat_in m ca i pb sb n ≡ Here i pb (two m (sb + 6))
+  pub seat_hit : two m sb ≡ ca → seat_in m ca i pb sb n ≡ Here i pb (two m (sb + 6))
   unfolding seat_in
-  seat-hit e = ap (seat_in m ca i pb sb) one_more ∙ simp (eq-eqb _ _ e)
+  seat_hit e = ap (seat_in m ca i pb sb) one_more ∙ simp (eq-eqb _ _ e)
 
-  pub seat-on : (two m sb ≡ ca → ⊥) → seat_in m ca i pb sb n ≡ seat_in m ca (i + 1) (pb + 48 * two m (sb + 6)) (sb + 8) (n - 1)
+  pub seat_on : (two m sb ≡ ca → ⊥) → seat_in m ca i pb sb n ≡ seat_in m ca (i + 1) (pb + 48 * two m (sb + 6)) (sb + 8) (n - 1)
   unfolding seat_in
-  seat-on e = ap (seat_in m ca i pb sb) one_more ∙ simp (ne_eqb _ _ e)
+  seat_on e = ap (seat_in m ca i pb sb) one_more ∙ simp (ne_eqb _ _ e)
 
 pub seat_end : (m : List ℕ) (ca i pb sb n : ℕ) → n ≤ 0 → seat_in m ca i pb sb n ≡ NotPlanned
 unfolding seat_in
@@ -41,11 +41,11 @@ pub record Nearer (low high : ℕ) (b : Bounds) : Type 0 where
 
 pub nearer : (key : ℕ → ℕ) (x low high : ℕ) → low < high → Nearer low high (narrowed key x low high)
 unfolding narrowed
-nearer key x low high h = by-test (ltb (key ((low + high) / 2)) x)
+nearer key x low high h = by_test (ltb (key ((low + high) / 2)) x)
   where
-    by-test : (b : Bool) → Nearer low high (pick b (record { low = (low + high) / 2 + 1; high = high }) (record { low = low; high = (low + high) / 2 }))
-    by-test true = record { from = omega arith; to = omega arith; order = omega arith; less = omega arith }
-    by-test false = record { from = omega arith; to = omega arith; order = omega arith; less = omega arith }
+    by_test : (b : Bool) → Nearer low high (pick b (record { low = (low + high) / 2 + 1; high = high }) (record { low = low; high = (low + high) / 2 }))
+    by_test true = record { from = omega arith; to = omega arith; order = omega arith; less = omega arith }
+    by_test false = record { from = omega arith; to = omega arith; order = omega arith; less = omega arith }
 
 -- more turns than places between the bounds change nothing
 pub halve_turns : (key : ℕ → ℕ) (x low high f g : ℕ) → high - low ≤ f → high - low ≤ g → halve key x low high f ≡ halve key x low high g
@@ -54,13 +54,13 @@ halve_turns key x low high zero zero a b = refl
 halve_turns key x low high zero (suc g) a b = let h : high ≤ low = omega arith in simp (le-ltb _ _ h)
 halve_turns key x low high (suc f) zero a b = let h : high ≤ low = omega arith in simp (le-ltb _ _ h)
 halve_turns key x low high (suc f) (suc g) a b =
-    by-test (ltb low high) refl (λ h. let n = nearer key x low high h in halve_turns key x (narrowed key x low high).low (narrowed key x low high).high f g (let l = n.less in omega arith) (let l = n.less in omega arith))
+    by_test (ltb low high) refl (λ h. let n = nearer key x low high h in halve_turns key x (narrowed key x low high).low (narrowed key x low high).high f g (let l = n.less in omega arith) (let l = n.less in omega arith))
   where
-    by-test : (t : Bool) → ltb low high ≡ t
+    by_test : (t : Bool) → ltb low high ≡ t
         → (low < high → halve key x (narrowed key x low high).low (narrowed key x low high).high f ≡ halve key x (narrowed key x low high).low (narrowed key x low high).high g)
         → pick t (halve key x (narrowed key x low high).low (narrowed key x low high).high f) low ≡ pick t (halve key x (narrowed key x low high).low (narrowed key x low high).high g) low
-    by-test true e again = again (ltb-true _ _ e)
-    by-test false e again = refl
+    by_test true e again = again (ltb-true _ _ e)
+    by_test false e again = refl
 
 pub halve_on : (key : ℕ → ℕ) (x low high n : ℕ) → low < high → high - low ≤ n
     → halve key x low high n ≡ halve key x (narrowed key x low high).low (narrowed key x low high).high n
@@ -78,9 +78,9 @@ halve_end key x low high (suc n) h = simp (le-ltb _ _ h)
 -- ---- the answer for index j
 
 module _ (m : List ℕ) (first n ioa j : ℕ) where
-  pub missing-end : n ≤ j → Missing (first + 48 * j) ≡ spot_at m first n ioa j
+  pub missing_end : n ≤ j → Missing (first + 48 * j) ≡ spot_at m first n ioa j
   unfolding spot_at ◌&◌
-  missing-end h = simp (le-ltb _ _ h)
+  missing_end h = simp (le-ltb _ _ h)
 
   pub held_at_lem : j < n → ioa_at m first j ≡ ioa → Held (first + 48 * j) ≡ spot_at m first n ioa j
   unfolding spot_at ◌&◌

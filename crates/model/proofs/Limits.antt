@@ -28,18 +28,18 @@ same false false f g = refl
 -- ---- the table
 
 module _ (k : ℕ) (h : k < 41) where
-  pub first-at : get_or place_limits k 0 ≡ first_limit k
+  pub first_at : get_or place_limits k 0 ≡ first_limit k
   unfolding place_limits
-  first-at =
+  first_at =
       get_or-append (values_from first_limit 0 41) (values_from last_limit 0 41 ++ values_from counter_limit 0 41) 0 k (omega (arith, length_values first_limit 0 41))
       ∙ values_at first_limit 41 k h
 
   after : (n : ℕ) (xs ys : List ℕ) → length xs ≡ 41 → get_or (xs ++ ys) (n + 41) 0 ≡ get_or ys n 0
   after n xs ys e = let i : n + 41 ≡ length xs + n = omega arith in ap (λ (j : ℕ). get_or (xs ++ ys) j 0) i ∙ get_or-append-add xs ys n 0
 
-  pub last-at : get_or place_limits (k + 41) 0 ≡ last_limit k
+  pub last_at : get_or place_limits (k + 41) 0 ≡ last_limit k
   unfolding place_limits
-  last-at =
+  last_at =
       after k (values_from first_limit 0 41) (values_from last_limit 0 41 ++ values_from counter_limit 0 41) (length_values first_limit 0 41)
       ∙ get_or-append (values_from last_limit 0 41) (values_from counter_limit 0 41) 0 k (omega (arith, length_values last_limit 0 41))
       ∙ values_at last_limit 41 k h
@@ -205,28 +205,28 @@ element_limit m o at kind = value_limit m o at (point_octets kind) (point_at_mos
 
 counter_number : (c z : ℕ) (b : Bool) → leb (c + 256 * z) (pick b 4 0) ≡ (leb c 4 & (eqb c 0 || b) & eqb z 0)
 counter_number c z true = same (leb (c + 256 * z) 4) (leb c 4 & (eqb c 0 || true) & eqb z 0)
-    (λ t. let w : c + 256 * z ≤ 4 = leb-true _ _ t in join (le-leb c 4 (omega arith)) (join (or-true (eqb c 0)) (eq-eqb z 0 (omega arith))))
+    (λ t. let w : c + 256 * z ≤ 4 = leb-true _ _ t in join (le-leb c 4 (omega arith)) (join (or_true (eqb c 0)) (eq-eqb z 0 (omega arith))))
     (λ t.
     let t1 = both _ _ t in
     let a : c ≤ 4 = leb-true _ _ t1.0 in
     let b : z ≡ 0 = eqb-true _ _ (both _ _ t1.1).1 in
     le-leb (c + 256 * z) 4 (omega arith))
   where
-    or-true : (b : Bool) → (b || true) ≡ true
-    or-true true = refl
-    or-true false = refl
+    or_true : (b : Bool) → (b || true) ≡ true
+    or_true true = refl
+    or_true false = refl
 counter_number c z false = same (leb (c + 256 * z) 0) (leb c 4 & (eqb c 0 || false) & eqb z 0)
-    (λ t. let w : c + 256 * z ≤ 0 = leb-true _ _ t in join (le-leb c 4 (omega arith)) (join (or-false (eqb c 0) ∙ eq-eqb c 0 (omega arith)) (eq-eqb z 0 (omega arith))))
+    (λ t. let w : c + 256 * z ≤ 0 = leb-true _ _ t in join (le-leb c 4 (omega arith)) (join (or_false (eqb c 0) ∙ eq-eqb c 0 (omega arith)) (eq-eqb z 0 (omega arith))))
     (λ t.
     let t1 = both _ _ t in
     let t2 = both _ _ t1.1 in
-    let a : c ≡ 0 = eqb-true _ _ (sym (or-false (eqb c 0)) ∙ t2.0) in
+    let a : c ≡ 0 = eqb-true _ _ (sym (or_false (eqb c 0)) ∙ t2.0) in
     let b : z ≡ 0 = eqb-true _ _ t2.1 in
     le-leb (c + 256 * z) 0 (omega arith))
   where
-    or-false : (b : Bool) → (b || false) ≡ b
-    or-false true = refl
-    or-false false = refl
+    or_false : (b : Bool) → (b || false) ≡ b
+    or_false true = refl
+    or_false false = refl
 
 pub counter_limit_lem : (c z kind : ℕ) → leb (c + 256 * z) (counter_limit kind) ≡ (leb c 4 & (eqb c 0 || is_counter kind) & eqb z 0)
 unfolding counter_limit

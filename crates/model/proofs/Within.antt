@@ -23,22 +23,22 @@ use Rattle.model.proofs.Limits.{same, element_limit, counter_limit_lem}
 -- ---- the spare octets, by four numbers of which the last two overlap
 
 module _ (m : List ℕ) where
-  eight-zero : (at : ℕ) → eqb (eight m at) 0 ≡ zeros m at 8
-  eight-zero at = ap (λ (x : ℕ). eqb x 0) (eight_number m at) ∙ number_zero m at 8
+  eight_zero : (at : ℕ) → eqb (eight m at) 0 ≡ zeros m at 8
+  eight_zero at = ap (λ (x : ℕ). eqb x 0) (eight_number m at) ∙ number_zero m at 8
 
   -- zeros cut after n octets
   cut : (at n k x t : ℕ) → at + n ≡ x → n + k ≡ t → zeros m at t ≡ (zeros m at n & zeros m x k)
   cut at n k x t e f = ap (zeros m at) (sym f) ∙ zeros_split m at n k ∙ ap (λ (i : ℕ). zeros m at n & zeros m i k) e
 
-  pub spare-is : (at : ℕ) → eqb (bit_or (bit_or (eight m at) (eight m (at + 8))) (bit_or (eight m (at + 16)) (eight m (at + 18)))) 0 ≡ zeros m at 26
-  spare-is at =
+  pub spare_is : (at : ℕ) → eqb (bit_or (bit_or (eight m at) (eight m (at + 8))) (bit_or (eight m (at + 16)) (eight m (at + 18)))) 0 ≡ zeros m at 26
+  spare_is at =
       let a = eight m at in
       let b = eight m (at + 8) in
       let c = eight m (at + 16) in
       let d = eight m (at + 18) in
       or_zero (bit_or a b) (bit_or c d)
       ∙ (λ j. or_zero a b j & or_zero c d j)
-      ∙ (λ j. (eight-zero at j & eight-zero (at + 8) j) & (eight-zero (at + 16) j & eight-zero (at + 18) j))
+      ∙ (λ j. (eight_zero at j & eight_zero (at + 8) j) & (eight_zero (at + 16) j & eight_zero (at + 18) j))
       ∙ same ((zeros m at 8 & zeros m (at + 8) 8) & (zeros m (at + 16) 8 & zeros m (at + 18) 8)) (zeros m at 26) to from
     where
       first : zeros m at 26 ≡ (zeros m at 8 & zeros m (at + 8) 18)
@@ -147,13 +147,13 @@ module _ (m : List ℕ) (at n : ℕ) (h : 0 < n) (ca low : ℕ) where
   one_more : n ≡ suc (n - 1)
   one_more = omega arith
 
-  pub places-on : place_ok m at ca low ≡ true → places_ok m at ca low n ≡ places_ok m (at + 48) ca (three m (at + 3) + 1) (n - 1)
+  pub places_on : place_ok m at ca low ≡ true → places_ok m at ca low n ≡ places_ok m (at + 48) ca (three m (at + 3) + 1) (n - 1)
   unfolding places_ok ◌&◌
-  places-on e = ap (places_ok m at ca low) one_more ∙ simp e
+  places_on e = ap (places_ok m at ca low) one_more ∙ simp e
 
-  pub places-off : place_ok m at ca low ≡ false → places_ok m at ca low n ≡ false
+  pub places_off : place_ok m at ca low ≡ false → places_ok m at ca low n ≡ false
   unfolding places_ok ◌&◌
-  places-off e = ap (places_ok m at ca low) one_more ∙ simp e
+  places_off e = ap (places_ok m at ca low) one_more ∙ simp e
 
 pub places_end : (m : List ℕ) (at ca low n : ℕ) → n ≤ 0 → places_ok m at ca low n ≡ true
 unfolding places_ok

@@ -211,11 +211,11 @@ refused k plan m t = simp t
 
 -- Done is given exactly if the table opens.
 pub done_opens : (k : ℕ) (plan m : List ℕ) → open_outcome k plan m ≡ Done → opens k plan (length m) ≡ true
-done_opens k plan m e = by-test (opens k plan (length m)) (ap number_of e)
+done_opens k plan m e = by_test (opens k plan (length m)) (ap number_of e)
   where
-    by-test : (b : Bool) → number_of (pick b Done InvalidPlan) ≡ 0 → b ≡ true
-    by-test true f = refl
-    by-test false f = absurd (omega arith)
+    by_test : (b : Bool) → number_of (pick b Done InvalidPlan) ≡ 0 → b ≡ true
+    by_test true f = refl
+    by_test false f = absurd (omega arith)
 
 pub opens_done : (k : ℕ) (plan m : List ℕ) → opens k plan (length m) ≡ true → open_outcome k plan m ≡ Done
 opens_done k plan m t = simp t
@@ -227,11 +227,11 @@ opened_parses k plan m t =
 
 -- Opening keeps the memory's length.
 pub opened_length : (k : ℕ) (plan m : List ℕ) → length (opened_memory k plan m) ≡ length m
-opened_length k plan m = by-test (opens k plan (length m)) refl
+opened_length k plan m = by_test (opens k plan (length m)) refl
   where
-    by-test : (b : Bool) → opens k plan (length m) ≡ b → length (opened_memory k plan m) ≡ length m
-    by-test false t = ap length (refused k plan m t)
-    by-test true t =
+    by_test : (b : Bool) → opens k plan (length m) ≡ b → length (opened_memory k plan m) ≡ length m
+    by_test false t = ap length (refused k plan m t)
+    by_test true t =
         let X : List ℕ = image (fresh k plan) in
         let r = (opens_is k plan (length m) t).room in
         let e : length X ≡ table_octets k (length (planned plan)) = table_octets_lem k plan in

@@ -48,9 +48,9 @@ module _ (plan : List ℕ) (at : ℕ) where
   c = get_or plan (at + 2) 0
 
   -- the next station, and the others
-  pub planned-on : at + 3 ≤ length plan → planned (drop at plan) ≡ station_of ca r c ∷ planned (drop (at + 3) plan)
+  pub planned_on : at + 3 ≤ length plan → planned (drop at plan) ≡ station_of ca r c ∷ planned (drop (at + 3) plan)
   unfolding planned
-  planned-on h =
+  planned_on h =
       let n1 : suc at ≡ at + 1 = omega arith in
       let n2 : suc (at + 1) ≡ at + 2 = omega arith in
       let n3 : suc (at + 2) ≡ at + 3 = omega arith in
@@ -59,39 +59,39 @@ module _ (plan : List ℕ) (at : ℕ) where
       let e2 : drop (at + 2) plan ≡ c ∷ drop (at + 3) plan = drop-cons plan (at + 2) 0 (omega arith) ∙ ap (λ (k : ℕ). c ∷ drop k plan) n3 in
       ap planned (e0 ∙ ap (λ (l : List ℕ). ca ∷ l) e1 ∙ ap (λ (l : List ℕ). ca ∷ (r ∷ l)) e2)
 
-  pub plan-on : (k low : ℕ) → at + 3 ≤ length plan → numbers_ok k low ca r c 0 ≡ true
+  pub plan_on : (k low : ℕ) → at + 3 ≤ length plan → numbers_ok k low ca r c 0 ≡ true
       → plan_ok k low (planned (drop at plan)) ≡ plan_ok k (ca + 1) (planned (drop (at + 3) plan))
   unfolding plan_ok ◌&◌
-  plan-on k low h e = ap (plan_ok k low) (planned-on h) ∙ simp e
+  plan_on k low h e = ap (plan_ok k low) (planned_on h) ∙ simp e
 
-  pub plan-off : (k low : ℕ) → at + 3 ≤ length plan → numbers_ok k low ca r c 0 ≡ false → plan_ok k low (planned (drop at plan)) ≡ false
+  pub plan_off : (k low : ℕ) → at + 3 ≤ length plan → numbers_ok k low ca r c 0 ≡ false → plan_ok k low (planned (drop at plan)) ≡ false
   unfolding plan_ok ◌&◌
-  plan-off k low h e = ap (plan_ok k low) (planned-on h) ∙ simp e
+  plan_off k low h e = ap (plan_ok k low) (planned_on h) ∙ simp e
 
-  pub reserved-on : at + 3 ≤ length plan → total reserved (planned (drop at plan)) ≡ r + total reserved (planned (drop (at + 3) plan))
+  pub reserved_on : at + 3 ≤ length plan → total reserved (planned (drop at plan)) ≡ r + total reserved (planned (drop (at + 3) plan))
   unfolding total
-  reserved-on h = ap (total reserved) (planned-on h)
+  reserved_on h = ap (total reserved) (planned_on h)
 
-  pub entries-on : at + 3 ≤ length plan → entries (planned (drop at plan)) ≡ eight ca r c 0 ++ entries (planned (drop (at + 3) plan))
+  pub entries_on : at + 3 ≤ length plan → entries (planned (drop at plan)) ≡ eight ca r c 0 ++ entries (planned (drop (at + 3) plan))
   unfolding entries
-  entries-on h = ap entries (planned-on h)
+  entries_on h = ap entries (planned_on h)
 
   -- nothing left
-  pub planned-end : length plan ≤ at → planned (drop at plan) ≡ []
+  pub planned_end : length plan ≤ at → planned (drop at plan) ≡ []
   unfolding planned
-  planned-end h = ap planned (drop_of_length-le plan {i = at} h)
+  planned_end h = ap planned (drop_of_length-le plan {i = at} h)
 
   pub plan_end : (k low : ℕ) → length plan ≤ at → plan_ok k low (planned (drop at plan)) ≡ true
   unfolding plan_ok
-  plan_end k low h = ap (plan_ok k low) (planned-end h)
+  plan_end k low h = ap (plan_ok k low) (planned_end h)
 
-  pub reserved-end : length plan ≤ at → total reserved (planned (drop at plan)) ≡ 0
+  pub reserved_end : length plan ≤ at → total reserved (planned (drop at plan)) ≡ 0
   unfolding total
-  reserved-end h = ap (total reserved) (planned-end h)
+  reserved_end h = ap (total reserved) (planned_end h)
 
-  pub entries-end : length plan ≤ at → entries (planned (drop at plan)) ≡ []
+  pub entries_end : length plan ≤ at → entries (planned (drop at plan)) ≡ []
   unfolding entries
-  entries-end h = ap entries (planned-end h)
+  entries_end h = ap entries (planned_end h)
 
   -- a turn of the writer: the next station's eight octets are written
   pub put_on : (m₀ whole m m' : List ℕ) (start o : ℕ) → at + 3 ≤ length plan → o + 8 ≤ length m
@@ -100,4 +100,4 @@ module _ (plan : List ℕ) (at : ℕ) where
   put_on m₀ whole m m' start o h k l e =
       let rest : List ℕ = entries (planned (drop (at + 3) plan)) in
       subst (λ (x : List ℕ). Log m₀ start whole x (o + 8) rest) (sym e)
-      (log_step m₀ whole m (eight ca r c 0) rest start o (subst (λ (x : List ℕ). Log m₀ start whole m o x) (entries-on h) l) k)
+      (log_step m₀ whole m (eight ca r c 0) rest start o (subst (λ (x : List ℕ). Log m₀ start whole m o x) (entries_on h) l) k)

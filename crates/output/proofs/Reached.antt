@@ -94,11 +94,11 @@ own_places m ca o w NotPlanned e =
 -- THE REACH of a CA in a well_formed_lem memory lies there, and its points are those that the CA speaks of, in the order of an answer
 pub reached : (m : List ℕ) (ca : ℕ) → Octets m → well_formed m ≡ true → Reached m ca (reach_of m ca)
 unfolding reach_of
-reached m ca o w = by-address (eqb ca global_address) refl
+reached m ca o w = by_address_lem (eqb ca global_address) refl
   where
-    by-address : (b : Bool) → eqb ca global_address ≡ b → Reached m ca (pick b (record { base = 64; n = two m 8; every = true }) (seat_reach (seat_at m ca)))
-    by-address true e =
+    by_address_lem : (b : Bool) → eqb ca global_address ≡ b → Reached m ca (pick b (record { base = 64; n = two m 8; every = true }) (seat_reach (seat_at m ca)))
+    by_address_lem true e =
         subst (λ (x : ℕ). Reached m x (record { base = 64; n = two m 8; every = true })) (sym (eqb-true ca global_address e)) (reached_all m w)
-    by-address false e =
+    by_address_lem false e =
         let r = own_places m ca o w (seat_at m ca) refl in
         record { lies = r.lies; few = r.few; points = r.points ∙ sym (points_own ca (table_of m).stations (λ q. eqb-false ca global_address e q)) }

@@ -33,7 +33,7 @@ use Rattle.point_lists.specs.Later.{with_twice, later_fault, start_of, search_fo
 use Rattle.point_lists.specs.Fold.{Both, stepped, folded}
 use Rattle.point_lists.specs.declared.Later.{Later}
 use Rattle.point_lists.proofs.Steps.{AllTested, FirstDone, Answers}
-use Rattle.point_lists.proofs.Longer.{onto, own_low, tests_low, room_fits, room_high, after, fault-first, fault-after, no-fault}
+use Rattle.point_lists.proofs.Longer.{onto, own_low, tests_low, room_fits, room_high, after, fault_first, fault_after, no_fault}
 
 -- ---- lists put before others
 
@@ -94,17 +94,17 @@ stands_before_lem : (q : Request) (r post : List Request) → stands_in q (take 
 unfolding stands_in
 stands_before_lem q r post =
     let z : length r ≡ length r + 0 = omega arith in
-    ap (λ (n : ℕ). stands_in q (take n (onto post r))) z ∙ ap (stands_in q) (take_onto r 0 post) ∙ stands_onto q r [] ∙ is-it (stands_in q r) ∙ sym (stands_whole q r)
+    ap (λ (n : ℕ). stands_in q (take n (onto post r))) z ∙ ap (stands_in q) (take_onto r 0 post) ∙ stands_onto q r [] ∙ is_it (stands_in q r) ∙ sym (stands_whole q r)
   where
-    is-it : (b : Bool) → pick b true false ≡ b
-    is-it true = refl
-    is-it false = refl
+    is_it : (b : Bool) → pick b true false ≡ b
+    is_it true = refl
+    is_it false = refl
 
 -- ---- the tests of one later point
 
 alone : (t : Table) (q : Request) → (own_tests t [] 0 (q ∷ [])).outcome ≡ batch_fault t [] q
 unfolding own_tests
-alone t q = by-test (is_done (batch_fault t [] q)) refl
+alone t q = by_test (is_done (batch_fault t [] q)) refl
   where
     passes : Reply
     passes = record { outcome = Done; place = 0 }
@@ -112,31 +112,31 @@ alone t q = by-test (is_done (batch_fault t [] q)) refl
     fails : Reply
     fails = record { outcome = batch_fault t [] q; place = 0 }
 
-    by-test : (b : Bool) → is_done (batch_fault t [] q) ≡ b → (pick b passes fails).outcome ≡ batch_fault t [] q
-    by-test true d = sym (done_is _ d)
-    by-test false d = refl
+    by_test : (b : Bool) → is_done (batch_fault t [] q) ≡ b → (pick b passes fails).outcome ≡ batch_fault t [] q
+    by_test true d = sym (done_is _ d)
+    by_test false d = refl
 
 twice_cases : (own : Outcome) (known found : Bool) → number_of own < 16
     → with_twice (first_fault own (first_fault Done (pick known AlreadyRegistered Done))) found
     ≡ first_fault own (first_fault (pick found AddressTwice Done) (pick known AlreadyRegistered Done))
 unfolding with_twice
-twice_cases own known found low = by-test (is_done own) refl found
+twice_cases own known found low = by_test (is_done own) refl found
   where
     not_known : eqb (number_of own) 17 ≡ false
     not_known = ne_eqb (number_of own) 17 (λ (e : number_of own ≡ 17). absurd (omega arith))
 
-    when-done : (known found : Bool) → with_twice (pick known AlreadyRegistered Done) found ≡ first_fault (pick found AddressTwice Done) (pick known AlreadyRegistered Done)
-    when-done true true = refl
-    when-done true false = refl
-    when-done false true = refl
-    when-done false false = refl
+    when_done : (known found : Bool) → with_twice (pick known AlreadyRegistered Done) found ≡ first_fault (pick found AddressTwice Done) (pick known AlreadyRegistered Done)
+    when_done true true = refl
+    when_done true false = refl
+    when_done false true = refl
+    when_done false false = refl
 
-    by-test : (b : Bool) → is_done own ≡ b → (found : Bool)
+    by_test : (b : Bool) → is_done own ≡ b → (found : Bool)
         → with_twice (pick b (first_fault Done (pick known AlreadyRegistered Done)) own) found
         ≡ pick b (first_fault (pick found AddressTwice Done) (pick known AlreadyRegistered Done)) own
-    by-test true d f = when-done known f
-    by-test false d true = simp (d, not_known)
-    by-test false d false = refl
+    by_test true d f = when_done known f
+    by_test false d true = simp (d, not_known)
+    by_test false d false = refl
 
 -- A later point's fault is the batch's, where what was found is whether its address stands earlier.
 fault_law : (m : List ℕ) (e : List Request) (p : Request) (found : Bool) → well_formed m ≡ true → found ≡ stands_in (whole p) e → later_fault m p found ≡ batch_fault (table_of m) e (whole p)
@@ -167,14 +167,14 @@ record Tells (l : Later) (r : Reply) : Type 0 where
   pub place : is_done r.outcome ≡ false → l.count ≡ r.place
 
 module _ (all : List Request) (m : List ℕ) where
-  fold-memory : (s : Later) (ps : List Request) → (folded all m s ps).memory ≡ m
+  fold_memory : (s : Later) (ps : List Request) → (folded all m s ps).memory ≡ m
   unfolding folded stepped
-  fold-memory s [] = refl
-  fold-memory s (p ∷ ps) = by-test s.done (fold-memory _ ps)
+  fold_memory s [] = refl
+  fold_memory s (p ∷ ps) = by_test s.done (fold_memory _ ps)
     where
-      by-test : (b : Bool) → (folded all m (stepped all m s p).state ps).memory ≡ m → (pick b (record { memory = m; state = s }) (folded all m (stepped all m s p).state ps)).memory ≡ m
-      by-test true ih = refl
-      by-test false ih = ih
+      by_test : (b : Bool) → (folded all m (stepped all m s p).state ps).memory ≡ m → (pick b (record { memory = m; state = s }) (folded all m (stepped all m s p).state ps)).memory ≡ m
+      by_test true ih = refl
+      by_test false ih = ih
 
   ended : (s : Later) (ps : List Request) → s.done ≡ true → folded all m s ps ≡ record { memory = m; state = s }
   unfolding folded
@@ -200,13 +200,13 @@ module _ (all : List Request) (m : List ℕ) where
 
   module _ (w : well_formed m ≡ true) (short : length all < 4611686018427387904) where
     -- The later points are tested as the batch says.
-    later-law : (post r : List Request) → all ≡ onto post r → 4097 ≤ length r
+    later_law : (post r : List Request) → all ≡ onto post r → 4097 ≤ length r
         → Tells (folded all m (going (length r)) post).state (own_tests (table_of m) (map whole r) (length r) (map whole post))
     unfolding folded stepped own_tests onto
-    later-law [] r e h = record { outcome = refl; place = λ d. not_both (sym d) }
-    later-law (p ∷ post) r e h =
+    later_law [] r e h = record { outcome = refl; place = λ d. not_both (sym d) }
+    later_law (p ∷ post) r e h =
         subst (λ (s : Later). Tells (folded all m s post).state (own_tests (table_of m) (map whole r) (length r) (map whole (p ∷ post)))) (sym step)
-        (by-test (subst (λ (n : ℕ). Tells (folded all m (going n) post).state (own_tests (table_of m) (whole p ∷ map whole r) n (map whole post))) next (later-law post (p ∷ r) e (omega arith))) (is_done F))
+        (by_test (subst (λ (n : ℕ). Tells (folded all m (going n) post).state (own_tests (table_of m) (whole p ∷ map whole r) n (map whole post))) next (later_law post (p ∷ r) e (omega arith))) (is_done F))
       where
         F : Outcome
         F = batch_fault (table_of m) (map whole r) (whole p)
@@ -229,10 +229,10 @@ module _ (all : List Request) (m : List ℕ) where
         step : judged m (going (length r)) p f ≡ pick (is_done F) (going (length r + 1)) stop
         step = later_judged m (length r) p f h few ∙ ap (λ (o : Outcome). pick (is_done o) (going (length r + 1)) (record { count = length r; outcome = o; done = true })) fault
 
-        by-test : Tells (folded all m (going (length r + 1)) post).state (own_tests (table_of m) (whole p ∷ map whole r) (length r + 1) (map whole post)) → (b : Bool)
+        by_test : Tells (folded all m (going (length r + 1)) post).state (own_tests (table_of m) (whole p ∷ map whole r) (length r + 1) (map whole post)) → (b : Bool)
             → Tells (folded all m (pick b (going (length r + 1)) stop) post).state (pick b (own_tests (table_of m) (whole p ∷ map whole r) (length r + 1) (map whole post)) (record { outcome = F; place = length r }))
-        by-test ih true = ih
-        by-test ih false = record { outcome = ap (λ (z : Both). z.state.outcome) (ended stop post refl); place = λ d. ap (λ (z : Both). z.state.count) (ended stop post refl) }
+        by_test ih true = ih
+        by_test ih false = record { outcome = ap (λ (z : Both). z.state.outcome) (ended stop post refl); place = λ d. ap (λ (z : Both). z.state.count) (ended stop post refl) }
 
 -- ---- the answer
 
@@ -253,11 +253,11 @@ answer_low l r h = simp (lt-ltb (number_of r.outcome) 19 h)
 
 answer_done : (l : Later) (r : Reply) → is_done l.outcome ≡ true → answer_of l r ≡ r
 unfolding answer_of
-answer_done l r d = by-test (ltb (number_of r.outcome) 19)
+answer_done l r d = by_test (ltb (number_of r.outcome) 19)
   where
-    by-test : (b : Bool) → pick b r (pick (is_done l.outcome) r (record { outcome = l.outcome; place = l.count })) ≡ r
-    by-test true = refl
-    by-test false = simp d
+    by_test : (b : Bool) → pick b r (pick (is_done l.outcome) r (record { outcome = l.outcome; place = l.count })) ≡ r
+    by_test true = refl
+    by_test false = simp d
 
 answer_late : (l : Later) (r : Reply) → ltb (number_of r.outcome) 19 ≡ false → is_done l.outcome ≡ false → answer_of l r ≡ record { outcome = l.outcome; place = l.count }
 unfolding answer_of
@@ -267,27 +267,27 @@ same_effect : (m : List ℕ) (t : Table) (l : Later) (x y : Effect) → y ≡ x 
 same_effect m t l x y e a = (a ∙ ap reply_of (sym e), ap (memory_of m t) (sym e))
 
 module _ (m : List ℕ) (t : Table) (g : Good t) (l : Later) (a b : List Request) (w : AllTwelve a) (long : length a ≡ 4097) (tells : Tells l (after t a b)) where
-  refused-own : is_done (own_tests t [] 0 a).outcome ≡ false → number_of (registering_all a t).outcome < 19
+  refused_own : is_done (own_tests t [] 0 a).outcome ≡ false → number_of (registering_all a t).outcome < 19
   unfolding registering_all
-  refused-own d = simp d (tests_low t [] 0 a)
+  refused_own d = simp d (tests_low t [] 0 a)
 
-  passed-own : is_done (own_tests t [] 0 a).outcome ≡ true → registering_all a t ≡ room_tests t 0 a
+  passed_own : is_done (own_tests t [] 0 a).outcome ≡ true → registering_all a t ≡ room_tests t 0 a
   unfolding registering_all
-  passed-own d = simp d
+  passed_own d = simp d
 
   -- 4,097 points find no room
   no_room : is_done (own_tests t [] 0 a).outcome ≡ true → is_done (room_tests t 0 a).outcome ≡ false
-  no_room d = by-test (is_done (room_tests t 0 a).outcome) refl
+  no_room d = by_test (is_done (room_tests t 0 a).outcome) refl
     where
-      by-test : (c : Bool) → is_done (room_tests t 0 a).outcome ≡ c → c ≡ false
-      by-test true e = let n = room_fits t 0 a g (own_tests_ready t [] 0 a (done_is _ d)).0 w (done_is _ e) in absurd (omega arith)
-      by-test false e = refl
+      by_test : (c : Bool) → is_done (room_tests t 0 a).outcome ≡ c → c ≡ false
+      by_test true e = let n = room_fits t 0 a g (own_tests_ready t [] 0 a (done_is _ d)).0 w (done_is _ e) in absurd (omega arith)
+      by_test false e = refl
 
   -- a later point has a fault
   late : is_done (own_tests t [] 0 a).outcome ≡ true → is_done (after t a b).outcome ≡ false → Alike m t l (registering_all a t) (registering_all (a ++ b) t)
   late d f =
-      let x = passed-own d in
-      let y = fault-after t a b d f in
+      let x = passed_own d in
+      let y = fault_after t a b d f in
       let high : ltb (number_of (registering_all a t).outcome) 19 ≡ false = ap (λ (e : Effect). ltb (number_of e.outcome) 19) x ∙ room_high t 0 a (own_tests_ready t [] 0 a (done_is _ d)).0 (no_room d) in
       let told : record { outcome = l.outcome; place = l.count } ≡ after t a b = λ i. record { outcome = tells.outcome i; place = tells.place f i } in
       let kept : memory_of m t (registering_all a t) ≡ m = ap (memory_of m t) x ∙ simp (no_room d) in
@@ -295,12 +295,12 @@ module _ (m : List ℕ) (t : Table) (g : Good t) (l : Later) (a b : List Request
       (answer_late l (reply_of (registering_all a t)) high (ap is_done tells.outcome ∙ f) ∙ told ∙ ap reply_of (sym y), kept ∙ sym kept')
 
   -- More than 4,097 points: the first of them with what testing told of the others.
-  long-law : Alike m t l (registering_all a t) (registering_all (a ++ b) t)
-  long-law = by_tests (is_done (own_tests t [] 0 a).outcome) refl (is_done (after t a b).outcome) refl
+  long_law : Alike m t l (registering_all a t) (registering_all (a ++ b) t)
+  long_law = by_tests (is_done (own_tests t [] 0 a).outcome) refl (is_done (after t a b).outcome) refl
     where
       by_tests : (c : Bool) → is_done (own_tests t [] 0 a).outcome ≡ c → (k : Bool) → is_done (after t a b).outcome ≡ k → Alike m t l (registering_all a t) (registering_all (a ++ b) t)
-      by_tests false d k f = same_effect m t l _ _ (fault-first t a b d) (answer_low l (reply_of (registering_all a t)) (refused-own d))
-      by_tests true d true f = same_effect m t l _ _ (no-fault t a b d f (no_room d)) (answer_done l (reply_of (registering_all a t)) (ap is_done tells.outcome ∙ f))
+      by_tests false d k f = same_effect m t l _ _ (fault_first t a b d) (answer_low l (reply_of (registering_all a t)) (refused_own d))
+      by_tests true d true f = same_effect m t l _ _ (no_fault t a b d f (no_room d)) (answer_done l (reply_of (registering_all a t)) (ap is_done tells.outcome ∙ f))
       by_tests true d false f = late d f
 
 module _ (ts : List ℕ) (ps : List Request) where
@@ -317,14 +317,14 @@ module _ (ts : List ℕ) (ps : List Request) where
   told = (folded ps ts (going 0) ps).state
 
   -- few points: none is a later one
-  told-few : length ps ≤ 4097 → told.outcome ≡ Done
+  told_few : length ps ≤ 4097 → told.outcome ≡ Done
   unfolding folded
-  told-few h = ap (λ (l : List Request). (folded ps ts (going 0) l).state.outcome) (sym (append-nil ps)) ∙ ap (λ (z : Both). z.state.outcome) (skip ps ts ps [] 0 (omega arith))
+  told_few h = ap (λ (l : List Request). (folded ps ts (going 0) l).state.outcome) (sym (append-nil ps)) ∙ ap (λ (z : Both). z.state.outcome) (skip ps ts ps [] 0 (omega arith))
 
   -- many points: those after the first are tested
-  told-many : well_formed ts ≡ true → length ps < 4611686018427387904 → length x ≡ 4097 → Tells told (after (table_of ts) (map whole x) (map whole y))
+  told_many : well_formed ts ≡ true → length ps < 4611686018427387904 → length x ≡ 4097 → Tells told (after (table_of ts) (map whole x) (map whole y))
   unfolding onto
-  told-many w short n =
+  told_many w short n =
       let r = onto [] x in
       let k : length r ≡ 0 + length x = length_onto x [] in
       let k' : length r ≡ length (map whole x) = let z = length_map x in omega arith in
@@ -332,47 +332,47 @@ module _ (ts : List ℕ) (ps : List Request) where
       let e : ps ≡ onto y r = sym (onto_onto x y [] ∙ whole-list) in
       let skipped : told ≡ (folded ps ts (going (length r)) y).state =
       ap (λ (l : List Request). (folded ps ts (going 0) l).state) (sym whole-list) ∙ ap (λ (z : Both). z.state) (skip ps ts x y 0 (omega arith)) ∙ ap (λ (j : ℕ). (folded ps ts (going j) y).state) (sym k) in
-      let law = later-law ps ts w short y r e (omega arith) in
+      let law = later_law ps ts w short y r e (omega arith) in
       let law' = subst (λ (q : List Request). Tells (folded ps ts (going (length r)) y).state (own_tests (table_of ts) q (length r) (map whole y))) (map_onto x []) law in
       let law'' = subst (λ (j : ℕ). Tells (folded ps ts (going (length r)) y).state (own_tests (table_of ts) (onto [] (map whole x)) j (map whole y))) k' law' in
       subst (λ (l : Later). Tells l (after (table_of ts) (map whole x) (map whole y))) (sym skipped) law''
 
   -- The first 4,097 points with what testing told of the others are answered as all of them.
-  answer-law : Octets ts → well_formed ts ≡ true → length ps < 4611686018427387904
+  answer_law : Octets ts → well_formed ts ≡ true → length ps < 4611686018427387904
       → Alike ts (table_of ts) told (registering_all (map whole x) (table_of ts)) (registering_all (map whole ps) (table_of ts))
-  answer-law o w short = by-test (ltb 4097 (length ps)) refl
+  answer_law o w short = by_test (ltb 4097 (length ps)) refl
     where
-      by-test : (c : Bool) → ltb 4097 (length ps) ≡ c → Alike ts (table_of ts) told (registering_all (map whole x) (table_of ts)) (registering_all (map whole ps) (table_of ts))
-      by-test true c =
+      by_test : (c : Bool) → ltb 4097 (length ps) ≡ c → Alike ts (table_of ts) told (registering_all (map whole x) (table_of ts)) (registering_all (map whole ps) (table_of ts))
+      by_test true c =
           let h : 4097 < length ps = ltb-true _ _ c in
           let n : length x ≡ 4097 = length-take-le 4097 ps (omega arith) in
           subst (λ (l : List Request). Alike ts (table_of ts) told (registering_all (map whole x) (table_of ts)) (registering_all l (table_of ts))) halves
-          (long-law ts (table_of ts) (holds ts o w).0 told (map whole x) (map whole y) (all_twelve x) (length_map x ∙ n) (told-many w short n))
-      by-test false c =
+          (long_law ts (table_of ts) (holds ts o w).0 told (map whole x) (map whole y) (all_twelve x) (length_map x ∙ n) (told_many w short n))
+      by_test false c =
           let h : length ps ≤ 4097 = ltb-false _ _ c in
           same_effect ts (table_of ts) told _ _ (ap (λ (l : List Request). registering_all (map whole l) (table_of ts)) (sym (take_all 4097 ps h)))
-          (answer_done told (reply_of (registering_all (map whole x) (table_of ts))) (ap is_done (told-few h)))
+          (answer_done told (reply_of (registering_all (map whole x) (table_of ts))) (ap is_done (told_few h)))
 
-  no-table-reply : (f : Table → Effect) → well_formed ts ≡ false → reply_on f ts ≡ record { outcome = TableNotWellFormed; place = 0 }
+  no_table_reply : (f : Table → Effect) → well_formed ts ≡ false → reply_on f ts ≡ record { outcome = TableNotWellFormed; place = 0 }
   unfolding reply_from
-  no-table-reply f w = ap (reply_from f) (parse_none ts w)
+  no_table_reply f w = ap (reply_from f) (parse_none ts w)
 
-  no-table-memory : (f : Table → Effect) → well_formed ts ≡ false → memory_on f ts ≡ ts
+  no_table_memory : (f : Table → Effect) → well_formed ts ≡ false → memory_on f ts ≡ ts
   unfolding memory_from
-  no-table-memory f w = ap (memory_from f ts) (parse_none ts w)
+  no_table_memory f w = ap (memory_from f ts) (parse_none ts w)
 
-  table-reply : (f : Table → Effect) → well_formed ts ≡ true → reply_on f ts ≡ reply_of (f (table_of ts))
+  table_reply : (f : Table → Effect) → well_formed ts ≡ true → reply_on f ts ≡ reply_of (f (table_of ts))
   unfolding reply_from
-  table-reply f w = ap (reply_from f) (parse_some ts w)
+  table_reply f w = ap (reply_from f) (parse_some ts w)
 
-  table-memory : (f : Table → Effect) → well_formed ts ≡ true → memory_on f ts ≡ memory_of ts (table_of ts) (f (table_of ts))
+  table_memory : (f : Table → Effect) → well_formed ts ≡ true → memory_on f ts ≡ memory_of ts (table_of ts) (f (table_of ts))
   unfolding memory_from
-  table-memory f w = ap (memory_from f ts) (parse_some ts w)
+  table_memory f w = ap (memory_from f ts) (parse_some ts w)
 
   -- What the calls of the entry come to is the effect of the batch of all points.
   pub comes : length ps * 28 < 2 ^ 63 → (s l : Later) (zs : List ℕ) (a z : Reply) (ts' : List ℕ)
       → s ≡ start_of ts → Octets ts → AllTested ts ps s l zs → FirstDone zs ps a ts' → z ≡ answer_of l a → Answers ts ps z ts'
-  comes room s l zs a z ts' es o tested first ez = by-test (well_formed ts) refl
+  comes room s l zs a z ts' es o tested first ez = by_test (well_formed ts) refl
     where
       A : Table → Effect
       A = registering_all (map whole x)
@@ -381,20 +381,20 @@ module _ (ts : List ℕ) (ps : List Request) where
       B = registering_all (map whole ps)
 
       same : zs ≡ ts
-      same = tested.1 ∙ fold-memory ps ts s ps
+      same = tested.1 ∙ fold_memory ps ts s ps
 
-      a-is : a ≡ reply_on A ts
-      a-is = first.0 ∙ ap (reply_on A) same
+      a_is : a ≡ reply_on A ts
+      a_is = first.0 ∙ ap (reply_on A) same
 
-      m-is : ts' ≡ memory_on A ts
-      m-is = first.1 ∙ ap (memory_on A) same
+      m_is : ts' ≡ memory_on A ts
+      m_is = first.1 ∙ ap (memory_on A) same
 
-      by-test : (c : Bool) → well_formed ts ≡ c → Answers ts ps z ts'
-      by-test true w =
+      by_test : (c : Bool) → well_formed ts ≡ c → Answers ts ps z ts'
+      by_test true w =
           let start : s ≡ going 0 = es ∙ ap (λ (b : Bool). record { count = 0; outcome = Done; done = not b }) w in
           let l-is : l ≡ told = tested.0 ∙ ap (λ (q : Later). (folded ps ts q ps).state) start in
-          let law = answer-law o w (omega arith) in
-          (ez ∙ (λ i. answer_of (l-is i) ((a-is ∙ table-reply A w) i)) ∙ law.0 ∙ sym (table-reply B w), m-is ∙ table-memory A w ∙ law.1 ∙ sym (table-memory B w))
-      by-test false w =
-          let r : a ≡ record { outcome = TableNotWellFormed; place = 0 } = a-is ∙ no-table-reply A w in
-          (ez ∙ ap (answer_of l) r ∙ answer_low l (record { outcome = TableNotWellFormed; place = 0 }) (ltb-true 3 19 refl) ∙ sym (no-table-reply B w), m-is ∙ no-table-memory A w ∙ sym (no-table-memory B w))
+          let law = answer_law o w (omega arith) in
+          (ez ∙ (λ i. answer_of (l-is i) ((a_is ∙ table_reply A w) i)) ∙ law.0 ∙ sym (table_reply B w), m_is ∙ table_memory A w ∙ law.1 ∙ sym (table_memory B w))
+      by_test false w =
+          let r : a ≡ record { outcome = TableNotWellFormed; place = 0 } = a_is ∙ no_table_reply A w in
+          (ez ∙ ap (answer_of l) r ∙ answer_low l (record { outcome = TableNotWellFormed; place = 0 }) (ltb-true 3 19 refl) ∙ sym (no_table_reply B w), m_is ∙ no_table_memory A w ∙ sym (no_table_memory B w))

@@ -46,7 +46,7 @@ pub own_append : (t : Table) (e : List Request) (i : ℕ) (a b : List Request)
     → own_tests t e i (a ++ b) ≡ pick (is_done (own_tests t e i a).outcome) (own_tests t (onto e a) (i + length a) b) (own_tests t e i a)
 unfolding own_tests onto
 own_append t e i [] b = ap (λ (n : ℕ). own_tests t e n b) (let z : i ≡ i + 0 = omega arith in z)
-own_append t e i (q ∷ a) b = by-test (own_append t (q ∷ e) (i + 1) a b) (is_done (batch_fault t e q)) refl
+own_append t e i (q ∷ a) b = by_test (own_append t (q ∷ e) (i + 1) a b) (is_done (batch_fault t e q)) refl
   where
     on : Reply
     on = own_tests t (q ∷ e) (i + 1) a
@@ -54,14 +54,14 @@ own_append t e i (q ∷ a) b = by-test (own_append t (q ∷ e) (i + 1) a b) (is_
     stop : Reply
     stop = record { outcome = batch_fault t e q; place = i }
 
-    by-test : own_tests t (q ∷ e) (i + 1) (a ++ b) ≡ pick (is_done on.outcome) (own_tests t (onto (q ∷ e) a) (i + 1 + length a) b) on
+    by_test : own_tests t (q ∷ e) (i + 1) (a ++ b) ≡ pick (is_done on.outcome) (own_tests t (onto (q ∷ e) a) (i + 1 + length a) b) on
         → (d : Bool) → is_done (batch_fault t e q) ≡ d
         → pick d (own_tests t (q ∷ e) (i + 1) (a ++ b)) stop
         ≡ pick (is_done (pick d on stop).outcome) (own_tests t (onto (q ∷ e) a) (i + suc (length a)) b) (pick d on stop)
-    by-test ih true z =
+    by_test ih true z =
         let n : i + 1 + length a ≡ i + suc (length a) = omega arith in
         ih ∙ ap (λ (k : ℕ). pick (is_done on.outcome) (own_tests t (onto (q ∷ e) a) k b) on) n
-    by-test ih false z = sym (ap (λ (d : Bool). pick d (own_tests t (onto (q ∷ e) a) (i + suc (length a)) b) stop) z)
+    by_test ih false z = sym (ap (λ (d : Bool). pick d (own_tests t (onto (q ∷ e) a) (i + suc (length a)) b) stop) z)
 
 -- ---- the numbers of own tests are below 19
 
@@ -80,11 +80,11 @@ unfolding own_fault
 own_low planned q = ltb-true _ _ (five (leb 1 (point_octets q.kind) & leb q.ioa 16777215) planned (group_ok 16 q.group) (group_ok 4 q.counter) (counter_ok q.kind q.counter))
 
 first_low : (a b : Outcome) → number_of a < 19 → number_of b < 19 → number_of (first_fault a b) < 19
-first_low a b x y = by-test (is_done a)
+first_low a b x y = by_test (is_done a)
   where
-    by-test : (d : Bool) → number_of (pick d b a) < 19
-    by-test true = y
-    by-test false = x
+    by_test : (d : Bool) → number_of (pick d b a) < 19
+    by_test true = y
+    by_test false = x
 
 twice_low : (b : Bool) → number_of (pick b AddressTwice Done) < 19
 twice_low true = ltb-true 16 19 refl
@@ -109,12 +109,12 @@ batch_low t e q =
 pub tests_low : (t : Table) (e : List Request) (i : ℕ) (qs : List Request) → number_of (own_tests t e i qs).outcome < 19
 unfolding own_tests
 tests_low t e i [] = ltb-true 0 19 refl
-tests_low t e i (q ∷ qs) = by-test (is_done (batch_fault t e q)) (tests_low t (q ∷ e) (i + 1) qs)
+tests_low t e i (q ∷ qs) = by_test (is_done (batch_fault t e q)) (tests_low t (q ∷ e) (i + 1) qs)
   where
-    by-test : (d : Bool) → number_of (own_tests t (q ∷ e) (i + 1) qs).outcome < 19
+    by_test : (d : Bool) → number_of (own_tests t (q ∷ e) (i + 1) qs).outcome < 19
         → number_of (pick d (own_tests t (q ∷ e) (i + 1) qs) (record { outcome = batch_fault t e q; place = i })).outcome < 19
-    by-test true ih = ih
-    by-test false ih = batch_low t e q
+    by_test true ih = ih
+    by_test false ih = batch_low t e q
 
 -- ---- room
 
@@ -122,16 +122,16 @@ tests_low t e i (q ∷ qs) = by-test (is_done (batch_fault t e q)) (tests_low t 
 pub room_append : (t : Table) (i : ℕ) (a b : List Request) → is_done (room_tests t i a).outcome ≡ false → room_tests t i (a ++ b) ≡ room_tests t i a
 unfolding room_tests
 room_append t i [] b d = not_both (sym d)
-room_append t i (q ∷ a) b d = by-test (λ h. room_append (with_request t q) (i + 1) a b h) (is_done (room_fault t (station_of q.ca t.stations))) d
+room_append t i (q ∷ a) b d = by_test (λ h. room_append (with_request t q) (i + 1) a b h) (is_done (room_fault t (station_of q.ca t.stations))) d
   where
     stop : Effect
     stop = refused (room_fault t (station_of q.ca t.stations)) i t
 
-    by-test : (is_done (room_tests (with_request t q) (i + 1) a).outcome ≡ false → room_tests (with_request t q) (i + 1) (a ++ b) ≡ room_tests (with_request t q) (i + 1) a)
+    by_test : (is_done (room_tests (with_request t q) (i + 1) a).outcome ≡ false → room_tests (with_request t q) (i + 1) (a ++ b) ≡ room_tests (with_request t q) (i + 1) a)
         → (r : Bool) → is_done (pick r (room_tests (with_request t q) (i + 1) a) stop).outcome ≡ false
         → pick r (room_tests (with_request t q) (i + 1) (a ++ b)) stop ≡ pick r (room_tests (with_request t q) (i + 1) a) stop
-    by-test ih true h = ih h
-    by-test ih false h = refl
+    by_test ih true h = ih h
+    by_test ih false h = refl
 
 -- one point more is held
 held_more : (t : Table) (q : Request) (s : Station) → station_of q.ca t.stations ≡ some s → total held (with_request t q).stations ≡ total held t.stations + 1
@@ -150,19 +150,19 @@ pub room_fits : (t : Table) (i : ℕ) (qs : List Request) → Good t → Ready t
 unfolding AllTwelve room_tests
 room_fits t i [] g r w e = let f = g.few in let k = g.k_high in omega arith
 room_fits t i (q ∷ qs) g (ready_more p x y) w e =
-    by-test (λ d f.
+    by_test (λ d f.
     let a = passes_accepted t q w.0 p d in
     let ih = room_fits (with_request t q) (i + 1) qs (accepted_good t q g a) (ready_after t q a.station qs a.found x y) w.1 f in
     let h = held_more t q a.station a.found in
     omega arith)
     (is_done (room_fault t (station_of q.ca t.stations))) refl e
   where
-    by-test : (room_fault t (station_of q.ca t.stations) ≡ Done → (room_tests (with_request t q) (i + 1) qs).outcome ≡ Done → total held t.stations + suc (length qs) ≤ 4096)
+    by_test : (room_fault t (station_of q.ca t.stations) ≡ Done → (room_tests (with_request t q) (i + 1) qs).outcome ≡ Done → total held t.stations + suc (length qs) ≤ 4096)
         → (b : Bool) → is_done (room_fault t (station_of q.ca t.stations)) ≡ b
         → (pick b (room_tests (with_request t q) (i + 1) qs) (refused (room_fault t (station_of q.ca t.stations)) i t)).outcome ≡ Done
         → total held t.stations + suc (length qs) ≤ 4096
-    by-test ih true d e' = ih (done_is _ d) e'
-    by-test ih false d e' = not_both (sym d ∙ ap is_done e')
+    by_test ih true d e' = ih (done_is _ d) e'
+    by_test ih false d e' = not_both (sym d ∙ ap is_done e')
 
 admission_high : (a : Admission) → is_done (admission_outcome a) ≡ false → ltb (number_of (admission_outcome a)) 19 ≡ false
 admission_high Admitted d = not_both (sym d)
@@ -182,18 +182,18 @@ unfolding room_tests
 room_high t i [] r d = not_both (sym d)
 room_high t i (q ∷ qs) (ready_more p x y) d =
     let s = planned_is (station_of q.ca t.stations) (faultless _ q p.own).is_planned_lem in
-    by-test s (λ h. room_high (with_request t q) (i + 1) qs (ready_after t q s.0 qs s.1 x y) h) (is_done (room_fault t (station_of q.ca t.stations))) refl d
+    by_test s (λ h. room_high (with_request t q) (i + 1) qs (ready_after t q s.0 qs s.1 x y) h) (is_done (room_fault t (station_of q.ca t.stations))) refl d
   where
     stop : Effect
     stop = refused (room_fault t (station_of q.ca t.stations)) i t
 
-    by-test : (s : Station) × (station_of q.ca t.stations ≡ some s)
+    by_test : (s : Station) × (station_of q.ca t.stations ≡ some s)
         → (is_done (room_tests (with_request t q) (i + 1) qs).outcome ≡ false → ltb (number_of (room_tests (with_request t q) (i + 1) qs).outcome) 19 ≡ false)
         → (b : Bool) → is_done (room_fault t (station_of q.ca t.stations)) ≡ b
         → is_done (pick b (room_tests (with_request t q) (i + 1) qs) stop).outcome ≡ false
         → ltb (number_of (pick b (room_tests (with_request t q) (i + 1) qs) stop).outcome) 19 ≡ false
-    by-test s ih true z h = ih h
-    by-test s ih false z h = fault_high t _ s.0 s.1 z
+    by_test s ih true z h = ih h
+    by_test s ih false z h = fault_high t _ s.0 s.1 z
 
 -- ---- the whole batch
 
@@ -202,31 +202,31 @@ module _ (t : Table) (a b : List Request) where
   abbrev pub after : Reply
   after = own_tests t (onto [] a) (length a) b
 
-  own-both : own_tests t [] 0 (a ++ b) ≡ pick (is_done (own_tests t [] 0 a).outcome) after (own_tests t [] 0 a)
-  own-both =
+  own_both : own_tests t [] 0 (a ++ b) ≡ pick (is_done (own_tests t [] 0 a).outcome) after (own_tests t [] 0 a)
+  own_both =
       let z : 0 + length a ≡ length a = omega arith in
       own_append t [] 0 a b ∙ ap (λ (n : ℕ). pick (is_done (own_tests t [] 0 a).outcome) (own_tests t (onto [] a) n b) (own_tests t [] 0 a)) z
 
-  by-reply : Reply → Effect
-  by-reply r = pick (is_done r.outcome) (room_tests t 0 (a ++ b)) (refused r.outcome r.place t)
+  by_reply : Reply → Effect
+  by_reply r = pick (is_done r.outcome) (room_tests t 0 (a ++ b)) (refused r.outcome r.place t)
 
   -- A fault in the first part is the answer to the whole.
-  pub fault-first : is_done (own_tests t [] 0 a).outcome ≡ false → registering_all (a ++ b) t ≡ registering_all a t
-  unfolding registering_all by-reply
-  fault-first d =
-      let o : own_tests t [] 0 (a ++ b) ≡ own_tests t [] 0 a = own-both ∙ simp d in
-      ap by-reply o ∙ simp d
+  pub fault_first : is_done (own_tests t [] 0 a).outcome ≡ false → registering_all (a ++ b) t ≡ registering_all a t
+  unfolding registering_all by_reply
+  fault_first d =
+      let o : own_tests t [] 0 (a ++ b) ≡ own_tests t [] 0 a = own_both ∙ simp d in
+      ap by_reply o ∙ simp d
 
   -- Else a fault in the second part is.
-  pub fault-after : is_done (own_tests t [] 0 a).outcome ≡ true → is_done after.outcome ≡ false → registering_all (a ++ b) t ≡ refused after.outcome after.place t
-  unfolding registering_all by-reply
-  fault-after d f =
-      let o : own_tests t [] 0 (a ++ b) ≡ after = own-both ∙ simp d in
-      ap by-reply o ∙ simp f
+  pub fault_after : is_done (own_tests t [] 0 a).outcome ≡ true → is_done after.outcome ≡ false → registering_all (a ++ b) t ≡ refused after.outcome after.place t
+  unfolding registering_all by_reply
+  fault_after d f =
+      let o : own_tests t [] 0 (a ++ b) ≡ after = own_both ∙ simp d in
+      ap by_reply o ∙ simp f
 
   -- Else a first part without room is.
-  pub no-fault : is_done (own_tests t [] 0 a).outcome ≡ true → is_done after.outcome ≡ true → is_done (room_tests t 0 a).outcome ≡ false → registering_all (a ++ b) t ≡ registering_all a t
-  unfolding registering_all by-reply
-  no-fault d f r =
-      let o : own_tests t [] 0 (a ++ b) ≡ after = own-both ∙ simp d in
-      ap by-reply o ∙ simp (f, d) (room_append t 0 a b r)
+  pub no_fault : is_done (own_tests t [] 0 a).outcome ≡ true → is_done after.outcome ≡ true → is_done (room_tests t 0 a).outcome ≡ false → registering_all (a ++ b) t ≡ registering_all a t
+  unfolding registering_all by_reply
+  no_fault d f r =
+      let o : own_tests t [] 0 (a ++ b) ≡ after = own_both ∙ simp d in
+      ap by_reply o ∙ simp (f, d) (room_append t 0 a b r)

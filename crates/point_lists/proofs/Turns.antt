@@ -1,5 +1,5 @@
 -- The fold from the i-th record on: what a turn of the loop does to it (made by tools/foldgen.py). Lists and records alone, nothing of the code.
---     at-end       past the last record it is what it was given
+--     at_end       past the last record it is what it was given
 --     at_done      so it is where the state is done
 --     at_more      else it is the fold from the next record on, of what the step makes
 -- Assumes nothing.
@@ -22,9 +22,9 @@ module _ (fs₀ : List Point) (m : List ℕ) (s : State) (ps : List Point) (i : 
   abbrev next : Both
   next = stepped fs₀ m s (at ps i)
 
-  pub at-end : i ≤ length ps → (i < length ps → ⊥) → folded fs₀ m s (drop i ps) ≡ as_is
+  pub at_end : i ≤ length ps → (i < length ps → ⊥) → folded fs₀ m s (drop i ps) ≡ as_is
   unfolding folded
-  at-end le past = ap (λ (j : ℕ). folded fs₀ m s (drop j ps)) (let e : i ≡ length ps = omega (arith, past) in e) ∙ ap (folded fs₀ m s) (drop-length ps)
+  at_end le past = ap (λ (j : ℕ). folded fs₀ m s (drop j ps)) (let e : i ≡ length ps = omega (arith, past) in e) ∙ ap (folded fs₀ m s) (drop-length ps)
 
   pub at_done : i < length ps → s.done ≡ true → folded fs₀ m s (drop i ps) ≡ as_is
   unfolding folded

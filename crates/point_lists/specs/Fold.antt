@@ -1,4 +1,4 @@
--- A point tested among all, and the points of a list one after another, as the code runs: nobody need believe these, `answer-law` says what they come to.
+-- A point tested among all, and the points of a list one after another, as the code runs: nobody need believe these, `answer_law` says what they come to.
 use Rattle.std.specs.Prelude.{ℕ, Bool, List, [], ◌∷◌, get_or}
 use Rattle.limits.specs.Test.{pick as choose}
 use Rattle.model.specs.declared.Request.{Request}

@@ -1,4 +1,4 @@
--- The tests of the points that stand after the first of a batch, which decide on room, as the code runs: nobody need believe these, `answer-law` says what they come to.
+-- The tests of the points that stand after the first of a batch, which decide on room, as the code runs: nobody need believe these, `answer_law` says what they come to.
 use Rattle.std.specs.Prelude.{ℕ, ◌+◌, Bool, true, false, not, List, [], ◌∷◌, ltb, eqb}
 use Rattle.limits.specs.Test.{pick}
 use Rattle.limits.specs.Outcome.{number_of, is_done}

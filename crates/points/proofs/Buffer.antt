@@ -1,7 +1,7 @@
 -- A local array of n octets, all zero, lent as a `&mut [u8]` for a lifetime of the caller's, and its room had back once that is over. It says nothing of the crate, and can be copied as it stands.
---     typed-zeros      the machine value of n zeros has the array's type
---     lends-zeros      n zeros in a local  ⊢ ⇛ ∃ γ. own (the `&κ mut [u8]` on them) ∗ the lender's part
---     zeros-back       [†κ] ∗ the lender's part ∗ finally γ zs  ⊢ ⇛ room for the array
+--     typed_zeros      the machine value of n zeros has the array's type
+--     lends_zeros      n zeros in a local  ⊢ ⇛ ∃ γ. own (the `&κ mut [u8]` on them) ∗ the lender's part
+--     zeros_back       [†κ] ∗ the lender's part ∗ finally γ zs  ⊢ ⇛ room for the array
 -- Assumes `Logic`.
 use mathlib.Core.Path.{refl, sym, subst}
 use Prim.Native.Nat.{ℕ}
@@ -54,15 +54,15 @@ module _ {M : Type 1} {𝓤 : Ura M} (𝓛 : Logic 𝓤) (n : ℕ) where
   -- what n zeros own, of what one zero owns
   open 𝓛 use {H, A}
 
-  pub owns-zeros : ent 𝓤 (sem 𝓛 (u8.own_val 0 (vint w8 0 ∷ []))) (sem 𝓛 ((Array u8 n).own_val (zeros n) (zv n ∷ [])))
-  owns-zeros = Array-repeat 𝓛 u8 (uint_copy 𝓛 w8) n 0 (vint w8 0)
+  pub owns_zeros : ent 𝓤 (sem 𝓛 (u8.own_val 0 (vint w8 0 ∷ []))) (sem 𝓛 ((Array u8 n).own_val (zeros n) (zv n ∷ [])))
+  owns_zeros = Array-repeat 𝓛 u8 (uint_copy 𝓛 w8) n 0 (vint w8 0)
 
-  pub typed-zeros : Is (Array u8 n) (zeros n) (zv n ∷ []) → Holds (has_ty (octets n) (zv n)) × WT (zv n)
-  typed-zeros is = ((Array-Lawful 𝓛 u8 (uint_Lawful 𝓛 w8) n).typed (zeros n) (zv n ∷ []) is).0
+  pub typed_zeros : Is (Array u8 n) (zeros n) (zv n ∷ []) → Holds (has_ty (octets n) (zv n)) × WT (zv n)
+  typed_zeros is = ((Array-Lawful 𝓛 u8 (uint_Lawful 𝓛 w8) n).typed (zeros n) (zv n ∷ []) is).0
 
-  pub lends-zeros : (b : ℕ) (ℓ : Lifetime) (κ : Lft) → Room u8 n → ent 𝓤 (sep 𝓤 (H.at full_share (octets n) b 0 (zv n)) (sem 𝓛 ((Array u8 n).own_val (zeros n) (zv n ∷ []))))
+  pub lends_zeros : (b : ℕ) (ℓ : Lifetime) (κ : Lft) → Room u8 n → ent 𝓤 (sep 𝓤 (H.at full_share (octets n) b 0 (zv n)) (sem 𝓛 ((Array u8 n).own_val (zeros n) (zv n ∷ []))))
       (H.⇛ (ex 𝓤 (λ (γ : GName). sep 𝓤 (sem 𝓛 ((MutSlice ℓ κ u8).own_val (at b γ (zeros n)) (slice_val (b, 0) n ∷ []))) (A.lent κ (Held u8 n b 0 γ)))))
-  lends-zeros b ℓ κ room =
+  lends_zeros b ℓ κ room =
       qed 𝓛 (‵ (fat full_share (octets n) b 0 (zv n)) ∷ ‵ ((Array u8 n).own_val (zeros n) (zv n ∷ [])) ∷ []) ∵ updating ! $
       use2 𝓛 (‵ (part_at (Array u8 n) full_share (zeros n) b 0)) (part_in 𝓛 (Array u8 n) refl full_share (zeros n) b 0 (zv n)) $
       use1 𝓛 (‵ ((arr_parts (shares u8) n).part full_share (zeros n) b 0)) (Array-apart 𝓛 u8 full_share tt n (zeros n) b 0) $ fsplit ! $ feq_l ! (λ e.
@@ -72,8 +72,8 @@ module _ {M : Type 1} {𝓤 : Ura M} (𝓛 : Logic 𝓤) (n : ℕ) where
       rewrite ! 0 (λ (k : ℕ). ‵ ((MutSlice ℓ κ u8).own_val (at b γ (zeros n)) (slice_val (b, 0) k ∷ []))) (length-replicate n 0) refl $ rewrite ! 1 (λ (k : ℕ). ‵ (flent κ (Held u8 k b 0 γ))) (length-replicate n 0) refl $
       at_once ! $ show ! (λ (γ' : GName). sep 𝓤 (sem 𝓛 ((MutSlice ℓ κ u8).own_val (at b γ' (zeros n)) (slice_val (b, 0) n ∷ []))) (A.lent κ (Held u8 n b 0 γ'))) γ $ done !))
 
-  pub zeros-back : (b : ℕ) (κ : Lft) (γ : GName) (zs : List ℕ) → ent 𝓤 (sep 𝓤 (A.dead κ) (sep 𝓤 (A.lent κ (Held u8 n b 0 γ)) (sem 𝓛 (finally u8 γ zs)))) (H.⇛ (H.room (octets n) b 0))
-  zeros-back b κ γ zs =
+  pub zeros_back : (b : ℕ) (κ : Lft) (γ : GName) (zs : List ℕ) → ent 𝓤 (sep 𝓤 (A.dead κ) (sep 𝓤 (A.lent κ (Held u8 n b 0 γ)) (sem 𝓛 (finally u8 γ zs)))) (H.⇛ (H.room (octets n) b 0))
+  zeros_back b κ γ zs =
       qed 𝓛 (‵ (fdead κ) ∷ ‵ (flent κ (Held u8 n b 0 γ)) ∷ ‵ (finally u8 γ zs) ∷ []) ∵ updating ! $
       use3 𝓛 (later (‵ ((Arr (mem u8) n).own_at zs b 0))) (slice_back 𝓛 u8 κ γ zs n b 0) $ await ! tt $ fsplit ! $ feq_l ! (λ e.
       use1 𝓛 (‵ (row u8 full_share zs b 0)) (whole_out 𝓛 u8 zs b 0) $ feq_i ! ℕ (length zs) n e $ fjoin ! $

@@ -134,8 +134,8 @@ one_laid m k p ps b h l =
     let left : length (over m (24 * k) (flat_record p)) / 24 - (k + 1) ≡ j = ap (λ (n : ℕ). n / 24 - (k + 1)) same in
     let more : length m / 24 - k ≡ suc j = omega arith in
     let taken : take (length m / 24 - k) (p ∷ ps) ≡ p ∷ take j ps = ap (λ (n : ℕ). take n (p ∷ ps)) more in
-    let at-end : 24 * (k + 1) ≡ 24 * k + length (flat_record p) = omega arith in
-    let front : take (24 * (k + 1)) (over m (24 * k) (flat_record p)) ≡ take (24 * k) m ++ flat_record p = ap (λ (n : ℕ). take n (over m (24 * k) (flat_record p))) at-end ∙ take_over m (flat_record p) (24 * k) fits in
+    let at_end : 24 * (k + 1) ≡ 24 * k + length (flat_record p) = omega arith in
+    let front : take (24 * (k + 1)) (over m (24 * k) (flat_record p)) ≡ take (24 * k) m ++ flat_record p = ap (λ (n : ℕ). take n (over m (24 * k) (flat_record p))) at_end ∙ take_over m (flat_record p) (24 * k) fits in
     record {
       count = let c : b.state.count ≡ k + 1 + length (take j ps) = l.count ∙ ap (λ (n : ℕ). k + 1 + length (take n ps)) left in rw taken (omega arith);
       within = subst (λ (n : ℕ). b.state.count ≤ n / 24) same l.within;
@@ -193,29 +193,29 @@ abbrev pub Took : List ℕ → List Request → Taken → Taken → List ℕ →
 Took ms ps s r zs = (r ≡ (folded ms s ps).state) × (zs ≡ (folded ms s ps).memory)
 
 module _ (ms : List ℕ) (ps : List Request) (s r : Taken) (zs : List ℕ) (e : s ≡ none_taken) (took : Took ms ps s r zs) where
-  state-is : r ≡ (folded ms none_taken ps).state
-  state-is = took.0 ∙ ap (λ (z : Taken). (folded ms z ps).state) e
+  state_is : r ≡ (folded ms none_taken ps).state
+  state_is = took.0 ∙ ap (λ (z : Taken). (folded ms z ps).state) e
 
-  memory-is : zs ≡ (folded ms none_taken ps).memory
-  memory-is = took.1 ∙ ap (λ (z : Taken). (folded ms z ps).memory) e
+  memory_is : zs ≡ (folded ms none_taken ps).memory
+  memory_is = took.1 ∙ ap (λ (z : Taken). (folded ms z ps).memory) e
 
   -- no more are taken out than the memory has room for
-  pub taken-within : r.count ≤ length zs / 24
-  taken-within =
+  pub taken_within : r.count ≤ length zs / 24
+  taken_within =
       let t = taken_law ms ps in
-      let n : length zs ≡ length ms = ap length memory-is ∙ t.2 in
-      let c : r.count ≡ (folded ms none_taken ps).state.count = ap (λ (z : Taken). z.count) state-is in
+      let n : length zs ≡ length ms = ap length memory_is ∙ t.2 in
+      let c : r.count ≡ (folded ms none_taken ps).state.count = ap (λ (z : Taken). z.count) state_is in
       rw (n, c) t.0
 
-  batch-taken : laid_down r zs ≡ batch_of (length ms) ps
-  batch-taken =
-      ap (λ (z : Taken). laid_down z zs) state-is
-      ∙ ap (laid_down (folded ms none_taken ps).state) memory-is ∙ (taken_law ms ps).1
+  batch_taken : laid_down r zs ≡ batch_of (length ms) ps
+  batch_taken =
+      ap (λ (z : Taken). laid_down z zs) state_is
+      ∙ ap (laid_down (folded ms none_taken ps).state) memory_is ∙ (taken_law ms ps).1
 
   -- the batch of what was taken out is registered
   pub answers : (ts : List ℕ) (p : Reply) (ts' ms' : List ℕ) → Registered ts zs r p ts' ms' → Answers ts ps ms p ts' ms'
   answers ts p ts' ms' done = (
-    done.0 ∙ ap (λ (qs : List Request). reply_on (registering_all qs) ts) batch-taken,
-    done.1 ∙ ap (λ (qs : List Request). memory_on (registering_all qs) ts) batch-taken,
-    done.2 ∙ memory-is,
+    done.0 ∙ ap (λ (qs : List Request). reply_on (registering_all qs) ts) batch_taken,
+    done.1 ∙ ap (λ (qs : List Request). memory_on (registering_all qs) ts) batch_taken,
+    done.2 ∙ memory_is,
   )

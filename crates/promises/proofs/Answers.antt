@@ -26,7 +26,7 @@ use Rattle.registry.proofs.Effects.{refusal_keeps_memory}
 use Rattle.answers.specs.declared.Answered.{Answered}
 use Rattle.asdu.specs.Header.{Asdu}
 use Rattle.answers.specs.Said.{Said, Lent, size, fits, outcome_with, answered_from, answered_on, lent_after}
-use Rattle.answers.proofs.Common.{refused-says-nothing, past_the_reported}
+use Rattle.answers.proofs.Common.{refused_says_nothing, past_the_reported}
 use Rattle.khuvelter.specs.Interface.{narrowed, flat_share}
 use Rattle.khuvelter.specs.declared.Reply.{Reply}
 use Rattle.khuvelter.proofs.Whole.{whole}
@@ -49,27 +49,27 @@ effect_refusal f l =
 
 -- Opening.
 open_refusal : (k : ℕ) (plan : List ℕ) (l : Lent) → Refusal (number_of (open_outcome k plan l.table)) 0 0 l (with_memory (opened_memory k plan l.table) l)
-open_refusal k plan l = by-test (opens k plan (length l.table)) _
+open_refusal k plan l = by_test (opens k plan (length l.table)) _
   where
-    by-test : (b : Bool) (n : List ℕ) → Refusal (number_of (pick b Done InvalidPlan)) 0 0 l (with_memory (pick b n l.table) l)
-    by-test true n = record { reports_nothing = λ z. (refl, refl); changes_nothing = λ z. not_both (sym z) }
-    by-test false n = record { reports_nothing = λ z. (refl, refl); changes_nothing = λ z. refl }
+    by_test : (b : Bool) (n : List ℕ) → Refusal (number_of (pick b Done InvalidPlan)) 0 0 l (with_memory (pick b n l.table) l)
+    by_test true n = record { reports_nothing = λ z. (refl, refl); changes_nothing = λ z. not_both (sym z) }
+    by_test false n = record { reports_nothing = λ z. (refl, refl); changes_nothing = λ z. refl }
 
 -- The calls that answer: the common last step.
 said_refusal : (f : Table → Said) (l : Lent) → Refusal (number_of (answered_on f l).outcome) (answered_on f l).octets (answered_on f l).spontaneous l (lent_after f l)
 said_refusal f l =
     record {
-      reports_nothing = λ e. let n = refused-says-nothing f l e in (n.0, n.1);
-      changes_nothing = λ e. (refused-says-nothing f l e).2;
+      reports_nothing = λ e. let n = refused_says_nothing f l e in (n.0, n.1);
+      changes_nothing = λ e. (refused_says_nothing f l e).2;
     }
 
 said_beyond : (f : Table → Said) (l : Lent) → Beyond (answered_on f l).octets (answered_on f l).spontaneous l (lent_after f l)
-said_beyond f l = by-test (is_done (answered_on f l).outcome) refl
+said_beyond f l = by_test (is_done (answered_on f l).outcome) refl
   where
-    by-test : (b : Bool) → is_done (answered_on f l).outcome ≡ b → Beyond (answered_on f l).octets (answered_on f l).spontaneous l (lent_after f l)
-    by-test true e = let p = past_the_reported f l e in record { of_the_answer = p.0; of_the_spontaneous = p.1 }
-    by-test false e =
-        let n = (refused-says-nothing f l e).2 in
+    by_test : (b : Bool) → is_done (answered_on f l).outcome ≡ b → Beyond (answered_on f l).octets (answered_on f l).spontaneous l (lent_after f l)
+    by_test true e = let p = past_the_reported f l e in record { of_the_answer = p.0; of_the_spontaneous = p.1 }
+    by_test false e =
+        let n = (refused_says_nothing f l e).2 in
         record {
           of_the_answer = ap (λ (x : Lent). drop (answered_on f l).octets x.answer) n;
           of_the_spontaneous = ap (λ (x : Lent). drop (answered_on f l).spontaneous x.spontaneous) n;
@@ -78,11 +78,11 @@ said_beyond f l = by-test (is_done (answered_on f l).outcome) refl
 -- ---- what is told lies in its memory, so that in one of less than 2^32 octets it is reported whole; answers are small (Small.antt)
 
 fits_is : (asdus : List Asdu) (memory : List ℕ) (o : Outcome) → is_done o ≡ false → pick (fits asdus memory) Done o ≡ Done → size asdus ≤ length memory
-fits_is asdus memory o n e = by-test (fits asdus memory) refl e
+fits_is asdus memory o n e = by_test (fits asdus memory) refl e
   where
-    by-test : (b : Bool) → fits asdus memory ≡ b → pick b Done o ≡ Done → size asdus ≤ length memory
-    by-test true t e' = leb-true _ _ t
-    by-test false t e' = not_both (sym n ∙ ap is_done e')
+    by_test : (b : Bool) → fits asdus memory ≡ b → pick b Done o ≡ Done → size asdus ≤ length memory
+    by_test true t e' = leb-true _ _ t
+    by_test false t e' = not_both (sym n ∙ ap is_done e')
 
 told_fits : (s : Said) (l : Lent) → outcome_with s l ≡ Done → size s.told ≤ length l.spontaneous
 unfolding outcome_with
@@ -93,17 +93,17 @@ told_fits s l e =
     fits_is s.told l.spontaneous SpontaneousShort refl d.0
 
 module _ (f : Table → Said) (l : Lent) where
-  told-within : (t : Option Table) → (answered_from f l t).spontaneous ≤ length l.spontaneous
+  told_within : (t : Option Table) → (answered_from f l t).spontaneous ≤ length l.spontaneous
   unfolding answered_from
-  told-within none = omega arith
-  told-within (some t) = by-test (is_done (outcome_with (f t) l)) refl
+  told_within none = omega arith
+  told_within (some t) = by_test (is_done (outcome_with (f t) l)) refl
     where
-      by-test : (b : Bool) → is_done (outcome_with (f t) l) ≡ b → pick b (size (f t).told) 0 ≤ length l.spontaneous
-      by-test true e = told_fits (f t) l (done_is _ e)
-      by-test false e = omega arith
+      by_test : (b : Bool) → is_done (outcome_with (f t) l) ≡ b → pick b (size (f t).told) 0 ≤ length l.spontaneous
+      by_test true e = told_fits (f t) l (done_is _ e)
+      by_test false e = omega arith
 
-  spontaneous-whole : length l.spontaneous < 4294967296 → narrowed (answered_on f l).spontaneous ≡ (answered_on f l).spontaneous
-  spontaneous-whole h = let w = told-within (parse l.table) in whole _ (omega arith)
+  spontaneous_whole : length l.spontaneous < 4294967296 → narrowed (answered_on f l).spontaneous ≡ (answered_on f l).spontaneous
+  spontaneous_whole h = let w = told_within (parse l.table) in whole _ (omega arith)
 
 -- ---- every call
 
@@ -131,7 +131,7 @@ call_beyond (ask q) l o few =
     let f = said_by q l.clock in
     record {
       of_the_answer = narrowed_beyond (answered_on f l).octets _ _ (small_whole f l o (question_small q l.clock)) (said_beyond f l).of_the_answer;
-      of_the_spontaneous = narrowed_beyond (answered_on f l).spontaneous _ _ (spontaneous-whole f l few) (said_beyond f l).of_the_spontaneous;
+      of_the_spontaneous = narrowed_beyond (answered_on f l).spontaneous _ _ (spontaneous_whole f l few) (said_beyond f l).of_the_spontaneous;
     }
 
 -- The share of a station: 0, 3 or 12, and with 3 or 12 no other number.

@@ -76,9 +76,9 @@ record Is (c : Call) (l : Lent) (w : Went) : Type 0 where
   left : Has (left_by c l).table w.after
 
 module _ (l : Lent) (t : Table) (h : Has l.table t) where
-  change-is : (c : Change) → Is (change c) l (effected (effect_by c) t)
+  change_is : (c : Change) → Is (change c) l (effected (effect_by c) t)
   unfolding reply_from
-  change-is c =
+  change_is c =
       let g = subst (λ (f : Table → Effect). Good (next f t)) (same_effect c) (keeps t h.is_good (registered c)).is_good in
       record {
         replied = ap (λ (o : Option Table). place_reply (reply_from (effect_by c) o)) h.read;
@@ -86,24 +86,24 @@ module _ (l : Lent) (t : Table) (h : Has l.table t) where
         left = record { read = parse_after (effect_by c) l.table t h.read (is_good _ g); is_good = g };
       }
 
-  said-front : (f : Table → Said) (l₁ : Lent) → (lent_from f l₁ (some t)).answer
+  said_front : (f : Table → Said) (l₁ : Lent) → (lent_from f l₁ (some t)).answer
       ≡ pick (is_done (outcome_with (f t) l₁)) (wire (f t).answer) [] ++ drop (length (pick (is_done (outcome_with (f t) l₁)) (wire (f t).answer) [])) l₁.answer
   unfolding lent_from
-  said-front f l₁ = by-test (is_done (outcome_with (f t) l₁)) refl
+  said_front f l₁ = by_test (is_done (outcome_with (f t) l₁)) refl
     where
-      by-test : (b : Bool) → is_done (outcome_with (f t) l₁) ≡ b → (lent_from f l₁ (some t)).answer
+      by_test : (b : Bool) → is_done (outcome_with (f t) l₁) ≡ b → (lent_from f l₁ (some t)).answer
           ≡ pick b (wire (f t).answer) [] ++ drop (length (pick b (wire (f t).answer) [])) l₁.answer
-      by-test true e = simp e
-      by-test false e = simp e
+      by_test true e = simp e
+      by_test false e = simp e
 
-  question-is : (q : Question) → Is (ask q) l (answered (said_by q l.clock) (lent [] l.clock l.answer l.spontaneous) t)
+  question_is : (q : Question) → Is (ask q) l (answered (said_by q l.clock) (lent [] l.clock l.answer l.spontaneous) t)
   unfolding answered_from outcome_with effect_in
-  question-is q =
+  question_is q =
       let f = said_by q l.clock in
       let g = (keeps t h.is_good (command (effect_in f l) (quiet q l))).is_good in
       record {
         replied = ap (λ (o : Option Table). answer_reply (answered_from f l o)) h.read;
-        wrote = ap (λ (o : Option Table). (lent_from f l o).answer) h.read ∙ said-front f l;
+        wrote = ap (λ (o : Option Table). (lent_from f l o).answer) h.read ∙ said_front f l;
         left = record { read = ap parse (command_effect f l).0 ∙ parse_after (effect_in f l) l.table t h.read (is_good _ g); is_good = g };
       }
 
@@ -112,11 +112,11 @@ module _ (l : Lent) (t : Table) (h : Has l.table t) where
   IsOf c none = Unit
   IsOf c (some w) = Is c l w
 
-  went-is : (c : Call) → IsOf c (went c l.clock l.answer l.spontaneous t)
+  went_is : (c : Call) → IsOf c (went c l.clock l.answer l.spontaneous t)
   unfolding IsOf went
-  went-is (open_table k plan) = tt
-  went-is (change c) = change-is c
-  went-is (ask q) = question-is q
+  went_is (open_table k plan) = tt
+  went_is (change c) = change_is c
+  went_is (ask q) = question_is q
 
 -- ---- lines, computed
 
@@ -181,7 +181,7 @@ line_is x xs m t h rest (some w) is e =
 agrees_is : (xs : List Line) (m : List ℕ) (t : Table) → Has m t → agrees xs t ≡ true → Comes m xs
 unfolding agrees Comes
 agrees_is [] m t h e = tt
-agrees_is (x ∷ xs) m t h e = line_is x xs m t h (λ u k f. agrees_is xs (left_by x.call (lent_for m x)).table u k f) _ (went-is (lent_for m x) t h x.call) e
+agrees_is (x ∷ xs) m t h e = line_is x xs m t h (λ u k f. agrees_is xs (left_by x.call (lent_for m x)).table u k f) _ (went_is (lent_for m x) t h x.call) e
 
 -- ---- cases, computed
 

@@ -34,7 +34,7 @@ use Rattle.answers.specs.declared.Choice.{Choice}
 use Rattle.answers.specs.declared.Choice.TheVariants.{Selected, Denied}
 use Rattle.answers.specs.Said.{Said, Lent, lent, size, says, fronted, Leaves, as_it_is, given}
 use Rattle.answers.specs.System.{qualifier_of, confirmed, terminated, interrogated, is_silent, interrogation_answer, answer_to, reported, command_said, system_from, system_said}
-use Rattle.answers.proofs.Ends.{ends-short, ends-done}
+use Rattle.answers.proofs.Ends.{ends_short, ends_done}
 use Rattle.faithful.specs.Faithful.{Faithful}
 use Rattle.faithful.proofs.Theorem.{faithful}
 use Rattle.khuvelter.specs.Interface.{answer_reply}
@@ -57,12 +57,12 @@ covers types (k ∷ ks) = among types k.number & covers types ks
 covered : (types : List ℕ) (ks : List Kind) (n : ℕ) → covers types ks ≡ true → leb 1 (octets_in ks n) ≡ true → among types n ≡ true
 unfolding covers octets_in
 covered types [] n c e = let z : ◌≡◌ {A = ℕ} 0 1 = ap (λ (b : Bool). pick b 1 0) e in absurd (omega arith)
-covered types (k ∷ ks) n c e = by-test (covered types ks n (both _ _ c).1) (eqb k.number n) refl e
+covered types (k ∷ ks) n c e = by_test (covered types ks n (both _ _ c).1) (eqb k.number n) refl e
   where
-    by-test : (leb 1 (octets_in ks n) ≡ true → among types n ≡ true) → (b : Bool) → eqb k.number n ≡ b
+    by_test : (leb 1 (octets_in ks n) ≡ true → among types n ≡ true) → (b : Bool) → eqb k.number n ≡ b
         → leb 1 (pick b k.octets (octets_in ks n)) ≡ true → among types n ≡ true
-    by-test ih true f e' = subst (λ (x : ℕ). among types x ≡ true) (eqb-true k.number n f) (both _ _ c).0
-    by-test ih false f e' = ih e'
+    by_test ih true f e' = subst (λ (x : ℕ). among types x ≡ true) (eqb-true k.number n f) (both _ _ c).0
+    by_test ih false f e' = ih e'
 
 all_covered : covers interrogation_types point_types ≡ true
 unfolding covers among interrogation_types point_types ◌&◌
@@ -84,11 +84,11 @@ module _ (m : List ℕ) (c : Command) (sel : Selection) (t : Table) (s : Station
   -- A qualifier that selects is not 0.
   asks : eqb (qualifier_of m) 0 ≡ false
   unfolding ◌&◌
-  asks = by-test (eqb (qualifier_of m) 0) refl
+  asks = by_test (eqb (qualifier_of m) 0) refl
     where
-      by-test : (b : Bool) → eqb (qualifier_of m) 0 ≡ b → b ≡ false
-      by-test false e = refl
-      by-test true e =
+      by_test : (b : Bool) → eqb (qualifier_of m) 0 ≡ b → b ≡ false
+      by_test false e = refl
+      by_test true e =
           let n : Denied ≡ Selected sel = ap interrogated (sym (eqb-true (qualifier_of m) 0 e)) ∙ a.asked in
           let z : ◌≡◌ {A = ℕ} 0 1 = cc in absurd (omega arith)
 
@@ -97,18 +97,18 @@ module _ (m : List ℕ) (c : Command) (sel : Selection) (t : Table) (s : Station
   heard = simp (a.object, a.cause, a.kind, asks)
 
   -- The points that its CA speaks of are the station's.
-  its-points : points_for c.ca t.stations ≡ s.points
+  its_points : points_for c.ca t.stations ≡ s.points
   unfolding points_for
-  its-points = simp a.one (ap points_of a.planned)
+  its_points = simp a.one (ap points_of a.planned)
 
   -- It says its answer, and changes nothing.
-  accepted-said : (clock : List ℕ) → system_said clock m t ≡ says (whole_answer m c sel t s) t clock
+  accepted_said : (clock : List ℕ) → system_said clock m t ≡ says (whole_answer m c sel t s) t clock
   unfolding system_from command_said interrogation_answer answer_to reported
-  accepted-said clock =
+  accepted_said clock =
       ap (λ (r : Reading). system_from clock m r t) a.read
       ∙ (simp (heard, a.kind)
       (ap (λ (x : Choice). says (answer_to t c m (interrogation_types_of t) (qualifier_of m) x) t clock) a.asked
-      ∙ ap (λ (ps : List Point). says (confirmed c m ∷ (report (limit_of t) (interrogation_types_of t) (qualifier_of m) c.ca (selected (selects sel) ps) ++ (terminated c m ∷ []))) t clock) its-points))
+      ∙ ap (λ (ps : List Point). says (confirmed c m ∷ (report (limit_of t) (interrogation_types_of t) (qualifier_of m) c.ca (selected (selects sel) ps) ++ (terminated c m ∷ []))) t clock) its_points))
 
 -- ---- demand 2
 
@@ -130,7 +130,7 @@ module _ (m : List ℕ) (c : Command) (sel : Selection) (s : Station) (l : Lent)
   answer = whole_answer m c sel t s
 
   said : f t ≡ says answer t l.clock
-  said = accepted-said m c sel t s a l.clock
+  said = accepted_said m c sel t s a l.clock
 
   rises : rising 0 s.points ≡ true
   rises = station_rises t c.ca s (holds l.table o w).0 (station_found c.ca t.stations s a.planned)
@@ -138,13 +138,13 @@ module _ (m : List ℕ) (c : Command) (sel : Selection) (s : Station) (l : Lent)
   -- With room enough for the answer.
   answers : size answer ≤ length l.answer → Leaves as_it_is f l (given (size answer)) (lent l.table l.clock (fronted answer l.answer) l.spontaneous)
   answers room =
-      ends-done f l w (size answer) _ (ap (λ (x : Said). x.outcome) said) (ap (λ (x : Said). x.told) said)
+      ends_done f l w (size answer) _ (ap (λ (x : Said). x.outcome) said) (ap (λ (x : Said). x.told) said)
       (sym (ap (λ (x : Said). size x.answer) said)) room
       (ap (λ (n : List ℕ). lent n l.clock (fronted answer l.answer) l.spontaneous) (printed l.table o (passed l.table w))
       ∙ sym (ap (λ (x : Said). lent (holding l.table t x.after) x.clock (fronted x.answer l.answer) l.spontaneous) said))
 
-  reported-once : size answer ≤ length l.answer → Reports m c sel t s l
-  reported-once room =
+  reported_once : size answer ≤ length l.answer → Reports m c sel t s l
+  reported_once room =
       let e = answers room in
       let y = station_faithful t (holds l.table o w).0 (qualifier_of m) c.ca sel s rises in
       let few = ap (λ (x : Said). size x.answer) said in
@@ -159,18 +159,18 @@ module _ (m : List ℕ) (c : Command) (sel : Selection) (s : Station) (l : Lent)
       }
 
   -- With less room it is number 4, nothing is reported, and every memory is as it was.
-  refused-whole : length l.answer < size answer
+  refused_whole : length l.answer < size answer
       → (reply_to (ask (system m)) l ≡ record { number = 4; place = 0; octets = 0; spontaneous = 0 }) × (left_by (ask (system m)) l ≡ l)
-  refused-whole short =
-      let e = ends-short f l w (ap (λ (x : Said). x.outcome) said) (ap (λ (x : Said). x.told) said)
+  refused_whole short =
+      let e = ends_short f l w (ap (λ (x : Said). x.outcome) said) (ap (λ (x : Said). x.told) said)
       (subst (λ (x : Said). length l.answer < size x.answer) (sym said) short) in
       (ap answer_reply (sym e.answers), sym e.leaves)
 
 pub the_right_answer : TheRightAnswer
 the_right_answer =
     record {
-      reports = reported-once;
-      too_long = refused-whole;
+      reports = reported_once;
+      too_long = refused_whole;
       one_outcome = one_outcome;
       one_share = λ ca m r r' p q. p ∙ sym q;
       one_table_entry = one_table_entry;

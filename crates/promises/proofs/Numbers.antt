@@ -123,11 +123,11 @@ gives_said ns false x y p q = q
 
 on_table : (ns : List ℕ) (f : Table → Effect) → Gives ns TableNotWellFormed → ((t : Table) → Gives ns (f t).outcome) → (m : List ℕ) → Gives ns (reply_on f m).outcome
 unfolding reply_from
-on_table ns f three g m = of-parsed (parse m)
+on_table ns f three g m = of_parsed (parse m)
   where
-    of-parsed : (o : Option Table) → Gives ns (reply_from f o).outcome
-    of-parsed none = three
-    of-parsed (some t) = g t
+    of_parsed : (o : Option Table) → Gives ns (reply_from f o).outcome
+    of_parsed none = three
+    of_parsed (some t) = g t
 
 -- Registration: its own tests, and room.
 pub own_gives : (ns : List ℕ) → Gives ns Done → Gives ns UnknownTypeOrAddress → Gives ns StationNotPlanned → Gives ns GroupOutOfRange
@@ -163,80 +163,80 @@ module _ (ns : List ℕ) (g : GivesOwn ns) where
   own : (planned : Bool) (q : Request) → Gives ns (own_fault planned q)
   own planned q = own_gives ns g.done g.unknown g.unplanned g.group g.counter g.no_counter planned q
 
-  registered-gives : (q : Request) (o : Option Station) → Gives ns (registered_fault q o)
-  registered-gives q o = gives_pick ns (is_registered q.ioa o) AlreadyRegistered Done g.registered g.done
+  registered_gives : (q : Request) (o : Option Station) → Gives ns (registered_fault q o)
+  registered_gives q o = gives_pick ns (is_registered q.ioa o) AlreadyRegistered Done g.registered g.done
 
   roomy : (t : Table) (o : Option Station) → Gives ns (room_fault t o)
   roomy t o = room_gives ns g.done g.unplanned g.ceiling g.room t o
 
-  request-gives : (t : Table) (q : Request) (o : Option Station) → Gives ns (request_outcome t q o)
+  request_gives : (t : Table) (q : Request) (o : Option Station) → Gives ns (request_outcome t q o)
   unfolding request_outcome
-  request-gives t q o =
+  request_gives t q o =
       gives_first ns (own_fault (is_planned o) q) (first_fault (registered_fault q o) (room_fault t o)) (own (is_planned o) q)
-      (gives_first ns (registered_fault q o) (room_fault t o) (registered-gives q o) (roomy t o))
+      (gives_first ns (registered_fault q o) (room_fault t o) (registered_gives q o) (roomy t o))
 
-  registering-gives : (q : Request) (t : Table) → Gives ns (registering q t).outcome
+  registering_gives : (q : Request) (t : Table) → Gives ns (registering q t).outcome
   unfolding registering
-  registering-gives q t = request-gives t q (station_of q.ca t.stations)
+  registering_gives q t = request_gives t q (station_of q.ca t.stations)
 
   module _ (twice : Gives ns AddressTwice) where
-    batch-fault-gives : (t : Table) (earlier : List Request) (q : Request) → Gives ns (batch_fault t earlier q)
+    batch_fault_gives : (t : Table) (earlier : List Request) (q : Request) → Gives ns (batch_fault t earlier q)
     unfolding batch_fault
-    batch-fault-gives t earlier q =
+    batch_fault_gives t earlier q =
         let o = station_of q.ca t.stations in
         gives_first ns (own_fault (is_planned o) q) (first_fault (pick (stands_in q earlier) AddressTwice Done) (registered_fault q o)) (own (is_planned o) q)
         (gives_first ns (pick (stands_in q earlier) AddressTwice Done) (registered_fault q o)
-        (gives_pick ns (stands_in q earlier) AddressTwice Done twice g.done) (registered-gives q o))
+        (gives_pick ns (stands_in q earlier) AddressTwice Done twice g.done) (registered_gives q o))
 
-    own-tests-gives : (t : Table) (earlier : List Request) (i : ℕ) (qs : List Request) → Gives ns (own_tests t earlier i qs).outcome
+    own_tests_gives : (t : Table) (earlier : List Request) (i : ℕ) (qs : List Request) → Gives ns (own_tests t earlier i qs).outcome
     unfolding own_tests
-    own-tests-gives t earlier i [] = g.done
-    own-tests-gives t earlier i (q ∷ qs) =
+    own_tests_gives t earlier i [] = g.done
+    own_tests_gives t earlier i (q ∷ qs) =
         gives_reply ns (is_done (batch_fault t earlier q)) (own_tests t (q ∷ earlier) (i + 1) qs) (record { outcome = batch_fault t earlier q; place = i })
-        (own-tests-gives t (q ∷ earlier) (i + 1) qs) (batch-fault-gives t earlier q)
+        (own_tests_gives t (q ∷ earlier) (i + 1) qs) (batch_fault_gives t earlier q)
 
-    room-tests-gives : (t : Table) (i : ℕ) (qs : List Request) → Gives ns (room_tests t i qs).outcome
+    room_tests_gives : (t : Table) (i : ℕ) (qs : List Request) → Gives ns (room_tests t i qs).outcome
     unfolding room_tests
-    room-tests-gives t i [] = g.done
-    room-tests-gives t i (q ∷ qs) =
+    room_tests_gives t i [] = g.done
+    room_tests_gives t i (q ∷ qs) =
         let r = room_fault t (station_of q.ca t.stations) in
         gives_effect ns (is_done r) (room_tests (with_request t q) (i + 1) qs) (refused r i t)
-        (room-tests-gives (with_request t q) (i + 1) qs) (roomy t (station_of q.ca t.stations))
+        (room_tests_gives (with_request t q) (i + 1) qs) (roomy t (station_of q.ca t.stations))
 
-    batch-gives : (qs : List Request) (t : Table) → Gives ns (registering_all qs t).outcome
+    batch_gives : (qs : List Request) (t : Table) → Gives ns (registering_all qs t).outcome
     unfolding registering_all
-    batch-gives qs t =
+    batch_gives qs t =
         let r = own_tests t [] 0 qs in
-        gives_effect ns (is_done r.outcome) (room_tests t 0 qs) (refused r.outcome r.place t) (room-tests-gives t 0 qs) (own-tests-gives t [] 0 qs)
+        gives_effect ns (is_done r.outcome) (room_tests t 0 qs) (refused r.outcome r.place t) (room_tests_gives t 0 qs) (own_tests_gives t [] 0 qs)
 
 module _ (ns : List ℕ) (done : Gives ns Done) where
   -- Removal.
-  removing-gives : Gives ns NotRegistered → (ca ioa : ℕ) (t : Table) → Gives ns (unregistering ca ioa t).outcome
+  removing_gives : Gives ns NotRegistered → (ca ioa : ℕ) (t : Table) → Gives ns (unregistering ca ioa t).outcome
   unfolding unregistering
-  removing-gives missing ca ioa t =
+  removing_gives missing ca ioa t =
       gives_effect ns (is_registered ioa (station_of ca t.stations)) (accepted 0 (removed t ca ioa)) (refused NotRegistered 0 t) done missing
 
-  removing-all-gives : (t : Table) → Gives ns (unregistering_all t).outcome
+  removing_all_gives : (t : Table) → Gives ns (unregistering_all t).outcome
   unfolding unregistering_all
-  removing-all-gives t = done
+  removing_all_gives t = done
 
   -- What a command says, and the room for it: 5, which counts only where something is told, and 4.
   module _ (short : Gives ns AnswerShort) where
-    with-gives : (s : Said) (l : Lent) → Gives ns s.outcome → Gives ns (pick (fits s.told l.spontaneous) Done SpontaneousShort) → Gives ns (outcome_with s l)
+    with_gives : (s : Said) (l : Lent) → Gives ns s.outcome → Gives ns (pick (fits s.told l.spontaneous) Done SpontaneousShort) → Gives ns (outcome_with s l)
     unfolding outcome_with
-    with-gives s l o told =
+    with_gives s l o told =
         let t = pick (fits s.told l.spontaneous) Done SpontaneousShort in
         let a = pick (fits s.answer l.answer) Done AnswerShort in
         gives_first ns s.outcome (first_fault t a) o (gives_first ns t a told (gives_pick ns (fits s.answer l.answer) Done AnswerShort done short))
 
-    answered-gives : (f : Table → Said) (l : Lent) → Gives ns TableNotWellFormed → ((t : Table) → Gives ns (f t).outcome)
+    answered_gives : (f : Table → Said) (l : Lent) → Gives ns TableNotWellFormed → ((t : Table) → Gives ns (f t).outcome)
         → ((t : Table) → Gives ns (pick (fits (f t).told l.spontaneous) Done SpontaneousShort)) → Gives ns (answered_on f l).outcome
     unfolding answered_from
-    answered-gives f l three o told = of-parsed (parse l.table)
+    answered_gives f l three o told = of_parsed (parse l.table)
       where
-        of-parsed : (t : Option Table) → Gives ns (answered_from f l t).outcome
-        of-parsed none = three
-        of-parsed (some t) = with-gives (f t) l (o t) (told t)
+        of_parsed : (t : Option Table) → Gives ns (answered_from f l t).outcome
+        of_parsed none = three
+        of_parsed (some t) = with_gives (f t) l (o t) (told t)
 
     -- Nothing told always fits.
     untold : (s : Said) (memory : List ℕ) → s.told ≡ [] → Gives ns (pick (fits s.told memory) Done SpontaneousShort)
@@ -246,27 +246,27 @@ module _ (ns : List ℕ) (done : Gives ns Done) where
 
   -- System commands.
   module _ (silent : Gives ns Silent) (malformed : Gives ns Malformed) where
-    command-gives : (clock m : List ℕ) (c : Command) (t : Table) → Gives ns (command_said clock m c t).outcome
+    command_gives : (clock m : List ℕ) (c : Command) (t : Table) → Gives ns (command_said clock m c t).outcome
     unfolding command_said
-    command-gives clock m c t =
+    command_gives clock m c t =
         gives_said ns (eqb c.kind interrogation_type) _ _ done
         (gives_said ns (eqb c.kind counters_type) _ _ done
         (gives_said ns (eqb c.kind read_type) _ _ done done))
 
-    system-gives : (clock m : List ℕ) (r : Reading) (t : Table) → Gives ns (system_from clock m r t).outcome
+    system_gives : (clock m : List ℕ) (r : Reading) (t : Table) → Gives ns (system_from clock m r t).outcome
     unfolding system_from
-    system-gives clock m LengthOutOfRange t = malformed
-    system-gives clock m TypeNotServed t = silent
-    system-gives clock m ObjectsNotWhole t = malformed
-    system-gives clock m (Parsed c) t = gives_said ns (is_silent c m) _ _ silent (command-gives clock m c t)
+    system_gives clock m LengthOutOfRange t = malformed
+    system_gives clock m TypeNotServed t = silent
+    system_gives clock m ObjectsNotWhole t = malformed
+    system_gives clock m (Parsed c) t = gives_said ns (is_silent c m) _ _ silent (command_gives clock m c t)
 
     -- Process commands.
-    process-gives : Gives ns BadProposal → (clock : List ℕ) (p : Proposal) (r : Reading) (t : Table) → Gives ns (process_from clock p r t).outcome
+    process_gives : Gives ns BadProposal → (clock : List ℕ) (p : Proposal) (r : Reading) (t : Table) → Gives ns (process_from clock p r t).outcome
     unfolding process_from
-    process-gives bad clock p LengthOutOfRange t = malformed
-    process-gives bad clock p TypeNotServed t = silent
-    process-gives bad clock p ObjectsNotWhole t = malformed
-    process-gives bad clock p (Parsed c) t =
+    process_gives bad clock p LengthOutOfRange t = malformed
+    process_gives bad clock p TypeNotServed t = silent
+    process_gives bad clock p ObjectsNotWhole t = malformed
+    process_gives bad clock p (Parsed c) t =
         gives_said ns (process_cause_taken c.cause) _ _ (gives_said ns (proposal_ok (limit_of t) p.kind p.objects) _ _ done bad) silent
 
 -- System commands tell nothing.
@@ -313,32 +313,32 @@ call_numbered (open_table k plan) l =
 call_numbered (change (register_point q)) l =
     let ns = numbers_of (change (register_point [])) in
     (on_table ns (registering (request_at q 0)) (record { is_one = refl })
-    (registering-gives ns (own_numbers ns refl refl refl refl refl refl refl refl refl) (request_at q 0)) l.table).is_one
+    (registering_gives ns (own_numbers ns refl refl refl refl refl refl refl refl refl) (request_at q 0)) l.table).is_one
 call_numbered (change (register_points qs)) l =
     let ns = numbers_of (change (register_points [])) in
     (on_table ns (registering_all (requests_in qs)) (record { is_one = refl })
-    (batch-gives ns (own_numbers ns refl refl refl refl refl refl refl refl refl) (record { is_one = refl }) (requests_in qs)) l.table).is_one
+    (batch_gives ns (own_numbers ns refl refl refl refl refl refl refl refl refl) (record { is_one = refl }) (requests_in qs)) l.table).is_one
 call_numbered (change (unregister_point ca ioa)) l =
     (on_table (numbers_of (change (unregister_point 0 0))) (unregistering ca ioa) (record { is_one = refl })
-    (removing-gives (numbers_of (change (unregister_point 0 0))) (record { is_one = refl }) (record { is_one = refl }) ca ioa) l.table).is_one
+    (removing_gives (numbers_of (change (unregister_point 0 0))) (record { is_one = refl }) (record { is_one = refl }) ca ioa) l.table).is_one
 call_numbered (change unregister_all) l =
-    (on_table (numbers_of (change unregister_all)) unregistering_all (record { is_one = refl }) (removing-all-gives (numbers_of (change unregister_all)) (record { is_one = refl })) l.table).is_one
+    (on_table (numbers_of (change unregister_all)) unregistering_all (record { is_one = refl }) (removing_all_gives (numbers_of (change unregister_all)) (record { is_one = refl })) l.table).is_one
 call_numbered (ask connection_started) l =
     let ns = numbers_of (ask connection_started) in
     let done : Gives ns Done = record { is_one = refl } in
     let short : Gives ns AnswerShort = record { is_one = refl } in
-    (answered-gives ns done short (start_said l.clock) l (record { is_one = refl }) (λ t. done) (λ t. untold ns done short (start_said l.clock t) l.spontaneous refl)).is_one
+    (answered_gives ns done short (start_said l.clock) l (record { is_one = refl }) (λ t. done) (λ t. untold ns done short (start_said l.clock t) l.spontaneous refl)).is_one
 call_numbered (ask (system m)) l =
     let ns = numbers_of (ask (system [])) in
     let done : Gives ns Done = record { is_one = refl } in
     let short : Gives ns AnswerShort = record { is_one = refl } in
-    (answered-gives ns done short (system_said l.clock m) l (record { is_one = refl })
-    (λ t. system-gives ns done (record { is_one = refl }) (record { is_one = refl }) l.clock m _ t)
+    (answered_gives ns done short (system_said l.clock m) l (record { is_one = refl })
+    (λ t. system_gives ns done (record { is_one = refl }) (record { is_one = refl }) l.clock m _ t)
     (λ t. untold ns done short (system_said l.clock m t) l.spontaneous (system_untold l.clock m _ t))).is_one
 call_numbered (ask (process m n k r us)) l =
     let ns = numbers_of (ask (process [] 0 0 [] [])) in
     let done : Gives ns Done = record { is_one = refl } in
     let p = proposal_of (is_set n) k r us in
-    (answered-gives ns done (record { is_one = refl }) (process_said l.clock p m) l (record { is_one = refl })
-    (λ t. process-gives ns done (record { is_one = refl }) (record { is_one = refl }) (record { is_one = refl }) l.clock p _ t)
+    (answered_gives ns done (record { is_one = refl }) (process_said l.clock p m) l (record { is_one = refl })
+    (λ t. process_gives ns done (record { is_one = refl }) (record { is_one = refl }) (record { is_one = refl }) l.clock p _ t)
     (λ t. gives_pick ns (fits (process_said l.clock p m t).told l.spontaneous) Done SpontaneousShort done (record { is_one = refl }))).is_one

@@ -77,32 +77,32 @@ past_front n xs ys m p q =
 
 module _ (m : List ℕ) (t : Table) (read : parse m ≡ some t) (g : Good t) where
   -- One of registry's calls.
-  call-past : (c : registry.Call) → drop (table_octets t.capacity (length t.stations)) (memory_on (effect_of c) m) ≡ drop (table_octets t.capacity (length t.stations)) m
+  call_past : (c : registry.Call) → drop (table_octets t.capacity (length t.stations)) (memory_on (effect_of c) m) ≡ drop (table_octets t.capacity (length t.stations)) m
   unfolding memory_from
-  call-past c =
+  call_past c =
       ap (λ (o : Option Table). drop (table_octets t.capacity (length t.stations)) (memory_from (effect_of c) m o)) read
-      ∙ by-test (is_done (effect_of c t).outcome) (keeps t g c).is_good (keeps t g c).plan
+      ∙ by_test (is_done (effect_of c t).outcome) (keeps t g c).is_good (keeps t g c).plan
     where
-      by-test : (b : Bool) → Good (pick b (effect_of c t).after t) → SamePlan t (pick b (effect_of c t).after t)
+      by_test : (b : Bool) → Good (pick b (effect_of c t).after t) → SamePlan t (pick b (effect_of c t).after t)
           → drop (table_octets t.capacity (length t.stations)) (pick b (holding m t (effect_of c t).after) m) ≡ drop (table_octets t.capacity (length t.stations)) m
-      by-test true h s = past_front _ (image (effect_of c t).after) (image t) m (octets_are _ h ∙ same_octets t _ s) (octets_are t g)
-      by-test false h s = refl
+      by_test true h s = past_front _ (image (effect_of c t).after) (image t) m (octets_are _ h ∙ same_octets t _ s) (octets_are t g)
+      by_test false h s = refl
 
 -- An opening.
 opening_past : (k : ℕ) (plan m : List ℕ) → drop (table_octets k (length (planned plan))) (opened_memory k plan m) ≡ drop (table_octets k (length (planned plan))) m
-opening_past k plan m = by-test (opens k plan (length m))
+opening_past k plan m = by_test (opens k plan (length m))
   where
-    by-test : (b : Bool) → drop (table_octets k (length (planned plan))) (pick b (image (fresh k plan) ++ drop (length (image (fresh k plan))) m) m)
+    by_test : (b : Bool) → drop (table_octets k (length (planned plan))) (pick b (image (fresh k plan) ++ drop (length (image (fresh k plan))) m) m)
         ≡ drop (table_octets k (length (planned plan))) m
-    by-test true = past_front _ (image (fresh k plan)) (image (fresh k plan)) m (table_octets_lem k plan) (table_octets_lem k plan)
-    by-test false = refl
+    by_test true = past_front _ (image (fresh k plan)) (image (fresh k plan)) m (table_octets_lem k plan) (table_octets_lem k plan)
+    by_test false = refl
 
 -- Every call.
 pub past_own : (c : Call) (l : Lent) → Octets l.table → (t : Table) → parse l.table ≡ some t → drop (own_octets c t) (left_by c l).table ≡ drop (own_octets c t) l.table
 past_own (open_table k plan) l o t e = opening_past k plan l.table
 past_own (change c) l o t e =
     subst (λ (f : Table → Effect). drop (table_octets t.capacity (length t.stations)) (memory_on f l.table) ≡ drop (table_octets t.capacity (length t.stations)) l.table)
-    (same_effect c) (call-past l.table t e (good_is t (parse_sound l.table t o e).0) (registered c))
+    (same_effect c) (call_past l.table t e (good_is t (parse_sound l.table t o e).0) (registered c))
 past_own (ask q) l o t e =
     ap (drop (table_octets t.capacity (length t.stations))) (command_effect (said_by q l.clock) l).0
-    ∙ call-past l.table t e (good_is t (parse_sound l.table t o e).0) (command (effect_in (said_by q l.clock) l) (quiet q l))
+    ∙ call_past l.table t e (good_is t (parse_sound l.table t o e).0) (command (effect_in (said_by q l.clock) l) (quiet q l))

@@ -14,7 +14,7 @@ use Rattle.limits.specs.declared.share.Admission.TheVariants as admission
 use Rattle.limits.specs.declared.outcome.Outcome.{Outcome}
 use Rattle.limits.specs.declared.outcome.Outcome.TheVariants.{Done, AddressTwice, AlreadyRegistered, CeilingReached, NotAdmitted}
 use Rattle.limits.proofs.Outcomes.{not_both, done_is}
-use Rattle.limits.proofs.Shares.{no_room, no-room-only, at-ceiling, at-ceiling-only}
+use Rattle.limits.proofs.Shares.{no_room, no_room_only, at_ceiling, at_ceiling_only}
 use Rattle.model.specs.declared.Request.{Request}
 use Rattle.model.specs.Request.{own_fault}
 use Rattle.model.proofs.Requests.{faultless}
@@ -52,31 +52,31 @@ module _ (t : Table) (ca : ℕ) (s : Station) (g : Good t) (f : station_of ca t.
   abbrev free_in : ℕ
   free_in = free_of t.capacity (map share_of t.stations)
 
-  abbrev unmet-in : ℕ
-  unmet-in = total unmet_of (map share_of t.stations)
+  abbrev unmet_in_lem : ℕ
+  unmet_in_lem = total unmet_of (map share_of t.stations)
 
-  ceiling-rule : Exactly (room_fault t (some s) ≡ CeilingReached) (AtCeiling t s)
+  ceiling_rule : Exactly (room_fault t (some s) ≡ CeilingReached) (AtCeiling t s)
   unfolding room_fault
-  ceiling-rule =
+  ceiling_rule =
       let h = (station_numbers t ca s g f).held_within in
       record {
-        only = λ e. let c = at-ceiling-only (share_of s) free_in unmet-in (full_is (admission_in t.capacity (map share_of t.stations) (share_of s)) e) in omega arith;
-        always = λ e. ap admission_outcome (at-ceiling (share_of s) free_in unmet-in (omega arith));
+        only = λ e. let c = at_ceiling_only (share_of s) free_in unmet_in_lem (full_is (admission_in t.capacity (map share_of t.stations) (share_of s)) e) in omega arith;
+        always = λ e. ap admission_outcome (at_ceiling (share_of s) free_in unmet_in_lem (omega arith));
       }
 
-  room-rule : Exactly (room_fault t (some s) ≡ NotAdmitted) (NotAdmittedIn t s)
+  room_rule : Exactly (room_fault t (some s) ≡ NotAdmitted) (NotAdmittedIn t s)
   unfolding room_fault
-  room-rule =
+  room_rule =
       let h : total held_of (map share_of t.stations) ≡ total held t.stations = total_held t.stations in
       let u : total unmet_of (map share_of t.stations) ≡ total unmet t.stations = total_unmet t.stations in
       record {
         only = λ e.
-            let n = no-room-only (share_of s) free_in unmet-in (kept_is (admission_in t.capacity (map share_of t.stations) (share_of s)) e) in
+            let n = no_room_only (share_of s) free_in unmet_in_lem (kept_is (admission_in t.capacity (map share_of t.stations) (share_of s)) e) in
             let k = n.kept in
             record { below_ceiling = n.below_ceiling; reservation_met = n.met; free_is_kept = omega arith };
         always = λ n.
             let k = n.free_is_kept in
-            ap admission_outcome (no_room (share_of s) free_in unmet-in (record { below_ceiling = n.below_ceiling; met = n.reservation_met; kept = omega arith }));
+            ap admission_outcome (no_room (share_of s) free_in unmet_in_lem (record { below_ceiling = n.below_ceiling; met = n.reservation_met; kept = omega arith }));
       }
 
 -- A rule: an outcome of the room test other than Done, and what it says of a table and a station.
@@ -100,7 +100,7 @@ unfolding among
 nineteen =
     record {
       is_refusal = refl;
-      exactly = ceiling-rule;
+      exactly = ceiling_rule;
       not_own = λ planned q e. not_both (sym (ap (λ (x : Outcome). among (0 ∷ 11 ∷ 12 ∷ 13 ∷ 14 ∷ 15 ∷ []) (number_of x)) e) ∙ own_number planned q);
       not_registered = λ e. let z : ◌≡◌ {A = ℕ} 17 19 = ap number_of e in absurd (omega arith);
       not_twice = λ e. let z : ◌≡◌ {A = ℕ} 16 19 = ap number_of e in absurd (omega arith);
@@ -111,7 +111,7 @@ unfolding among
 twenty =
     record {
       is_refusal = refl;
-      exactly = room-rule;
+      exactly = room_rule;
       not_own = λ planned q e. not_both (sym (ap (λ (x : Outcome). among (0 ∷ 11 ∷ 12 ∷ 13 ∷ 14 ∷ 15 ∷ []) (number_of x)) e) ∙ own_number planned q);
       not_registered = λ e. let z : ◌≡◌ {A = ℕ} 17 20 = ap number_of e in absurd (omega arith);
       not_twice = λ e. let z : ◌≡◌ {A = ℕ} 16 20 = ap number_of e in absurd (omega arith);
@@ -121,11 +121,11 @@ twenty =
 
 -- a first fault that is not the first of two is the second
 second_fault : (a b o : Outcome) → first_fault a b ≡ o → (a ≡ o → ⊥) → (a ≡ Done) × (b ≡ o)
-second_fault a b o e n = by-test (is_done a) refl e
+second_fault a b o e n = by_test (is_done a) refl e
   where
-    by-test : (t : Bool) → is_done a ≡ t → pick t b a ≡ o → (a ≡ Done) × (b ≡ o)
-    by-test true d e' = (done_is a d, e')
-    by-test false d e' = absurd (n e')
+    by_test : (t : Bool) → is_done a ≡ t → pick t b a ≡ o → (a ≡ Done) × (b ≡ o)
+    by_test true d e' = (done_is a d, e')
+    by_test false d e' = absurd (n e')
 
 -- a test that gives its fault or Done
 not_this : (fault o : Outcome) → is_done o ≡ false → (fault ≡ o → ⊥) → (b : Bool) → pick b fault Done ≡ o → ⊥
@@ -156,17 +156,17 @@ record RefusedAt (t : Table) (qs : List Request) (o : Outcome) (j place : ℕ) :
 refused_at : (t : Table) (j : ℕ) (qs : List Request) (o : Outcome) → is_done o ≡ false → (room_tests t j qs).outcome ≡ o → RefusedAt t qs o j (room_tests t j qs).place
 unfolding room_tests
 refused_at t j [] o n e = not_both (sym n ∙ ap is_done (sym e))
-refused_at t j (q ∷ qs) o n e = by-test (refused_at (with_request t q) (j + 1) qs o n) (is_done (room_fault t (station_of q.ca t.stations))) refl e
+refused_at t j (q ∷ qs) o n e = by_test (refused_at (with_request t q) (j + 1) qs o n) (is_done (room_fault t (station_of q.ca t.stations))) refl e
   where
-    by-test : ((room_tests (with_request t q) (j + 1) qs).outcome ≡ o → RefusedAt (with_request t q) qs o (j + 1) (room_tests (with_request t q) (j + 1) qs).place)
+    by_test : ((room_tests (with_request t q) (j + 1) qs).outcome ≡ o → RefusedAt (with_request t q) qs o (j + 1) (room_tests (with_request t q) (j + 1) qs).place)
         → (b : Bool) → is_done (room_fault t (station_of q.ca t.stations)) ≡ b
         → (pick b (room_tests (with_request t q) (j + 1) qs) (refused (room_fault t (station_of q.ca t.stations)) j t)).outcome ≡ o
         → RefusedAt t (q ∷ qs) o j (pick b (room_tests (with_request t q) (j + 1) qs) (refused (room_fault t (station_of q.ca t.stations)) j t)).place
-    by-test ih true d e' =
+    by_test ih true d e' =
         let z = ih e' in
         let k = z.named in
         record { index = suc z.index; at = z.at; asks = z.asks; turn = turn_later (done_is _ d) z.turn; fault = z.fault; named = omega arith }
-    by-test ih false d e' = record { index = 0; at = t; asks = q; turn = turn_now; fault = e'; named = omega arith }
+    by_test ih false d e' = record { index = 0; at = t; asks = q; turn = turn_now; fault = e'; named = omega arith }
 
 -- The fault of a turn is what the batch is refused for.
 fault_at : {t u : Table} {qs : List Request} {i : ℕ} {r : Request} (j : ℕ) (o : Outcome) → Turn t qs i u r → is_done o ≡ false
@@ -182,9 +182,9 @@ fault_at j o (turn_later {t = t} {q = q} {qs = qs} {i = i} f l) n e =
     (simp d ih.0, simp d k)
 
 module _ (o : Outcome) (P : Table → Station → Type 0) (rule : Rule o P) where
-  pub alone-exactly : (t : Table) (q : Request) → Good t → Exactly (request_outcome t q (station_of q.ca t.stations) ≡ o) (Alone t q P)
+  pub alone_exactly : (t : Table) (q : Request) → Good t → Exactly (request_outcome t q (station_of q.ca t.stations) ≡ o) (Alone t q P)
   unfolding request_outcome
-  alone-exactly t q g =
+  alone_exactly t q g =
       let st = station_of q.ca t.stations in
       record {
         only = λ e.
@@ -204,33 +204,33 @@ module _ (o : Outcome) (P : Table → Station → Type 0) (rule : Rule o P) wher
       }
 
   -- no point's own tests give it
-  own-tests-not : (t : Table) (earlier : List Request) (i : ℕ) (qs : List Request) → (own_tests t earlier i qs).outcome ≡ o → ⊥
+  own_tests_not : (t : Table) (earlier : List Request) (i : ℕ) (qs : List Request) → (own_tests t earlier i qs).outcome ≡ o → ⊥
   unfolding own_tests batch_fault
-  own-tests-not t earlier i [] e = not_both (sym rule.is_refusal ∙ ap is_done (sym e))
-  own-tests-not t earlier i (q ∷ qs) e = by-test (own-tests-not t (q ∷ earlier) (i + 1) qs) (is_done (batch_fault t earlier q)) e
+  own_tests_not t earlier i [] e = not_both (sym rule.is_refusal ∙ ap is_done (sym e))
+  own_tests_not t earlier i (q ∷ qs) e = by_test (own_tests_not t (q ∷ earlier) (i + 1) qs) (is_done (batch_fault t earlier q)) e
     where
-      fault-not : first_fault (own_fault (is_planned (station_of q.ca t.stations)) q) (first_fault (pick (stands_in q earlier) AddressTwice Done) (registered_fault q (station_of q.ca t.stations))) ≡ o → ⊥
-      fault-not f =
+      fault_not : first_fault (own_fault (is_planned (station_of q.ca t.stations)) q) (first_fault (pick (stands_in q earlier) AddressTwice Done) (registered_fault q (station_of q.ca t.stations))) ≡ o → ⊥
+      fault_not f =
           let one = second_fault _ (first_fault (pick (stands_in q earlier) AddressTwice Done) (registered_fault q (station_of q.ca t.stations))) o f (rule.not_own (is_planned (station_of q.ca t.stations)) q) in
           let two = second_fault (pick (stands_in q earlier) AddressTwice Done) (registered_fault q (station_of q.ca t.stations)) o one.1 (not_this AddressTwice o rule.is_refusal rule.not_twice (stands_in q earlier)) in
           not_this AlreadyRegistered o rule.is_refusal rule.not_registered (is_registered q.ioa (station_of q.ca t.stations)) two.1
 
-      by-test : ((own_tests t (q ∷ earlier) (i + 1) qs).outcome ≡ o → ⊥) → (b : Bool)
+      by_test : ((own_tests t (q ∷ earlier) (i + 1) qs).outcome ≡ o → ⊥) → (b : Bool)
           → (pick b (own_tests t (q ∷ earlier) (i + 1) qs) (record { outcome = batch_fault t earlier q; place = i })).outcome ≡ o → ⊥
-      by-test ih true e' = ih e'
-      by-test ih false e' = fault-not e'
+      by_test ih true e' = ih e'
+      by_test ih false e' = fault_not e'
 
   -- the fault at such a turn
-  pub turn-fault : (t : Table) (qs : List Request) (i : ℕ) → Good t → AllTwelve qs → (z : AtTurn t qs i P) → room_fault z.table (station_of z.asks.ca z.table.stations) ≡ o
-  turn-fault t qs i g w z =
+  pub turn_fault : (t : Table) (qs : List Request) (i : ℕ) → Good t → AllTwelve qs → (z : AtTurn t qs i P) → room_fault z.table (station_of z.asks.ca z.table.stations) ≡ o
+  turn_fault t qs i g w z =
       let good = turn_good t qs z.table z.asks g (own_tests_ready t [] 0 qs z.own_tests_passed).0 w (turn_of z.turn) in
       ap (room_fault z.table) z.of_station ∙ (rule.exactly z.table z.asks.ca z.station good.0 z.of_station).always z.so
 
   -- what a batch that is refused so says, and the other way round
-  pub batch-exactly : (t : Table) (qs : List Request) (i : ℕ) → Good t → AllTwelve qs
+  pub batch_exactly : (t : Table) (qs : List Request) (i : ℕ) → Good t → AllTwelve qs
       → Exactly (((registering_all qs t).outcome ≡ o) × ((registering_all qs t).place ≡ i)) (AtTurn t qs i P)
   unfolding registering_all
-  batch-exactly t qs i g w = record { only = λ e. by-test (is_done (own_tests t [] 0 qs).outcome) refl e; always = so-refused }
+  batch_exactly t qs i g w = record { only = λ e. by_test (is_done (own_tests t [] 0 qs).outcome) refl e; always = so_refused }
     where
       refusal : Effect
       refusal = record { outcome = (own_tests t [] 0 qs).outcome; place = (own_tests t [] 0 qs).place; after = t }
@@ -250,13 +250,13 @@ module _ (o : Outcome) (P : Table → Station → Type 0) (rule : Rule o P) wher
             so = (rule.exactly z.at z.asks.ca s.0 good.0 s.1).only (sym (ap (room_fault z.at) s.1) ∙ z.fault);
           }
 
-      by-test : (b : Bool) → is_done (own_tests t [] 0 qs).outcome ≡ b → ((pick b (room_tests t 0 qs) refusal).outcome ≡ o) × ((pick b (room_tests t 0 qs) refusal).place ≡ i) → AtTurn t qs i P
-      by-test true d e = by_turn (done_is _ d) e.1 (refused_at t 0 qs o rule.is_refusal e.0)
-      by-test false d e = absurd (own-tests-not t [] 0 qs e.0)
+      by_test : (b : Bool) → is_done (own_tests t [] 0 qs).outcome ≡ b → ((pick b (room_tests t 0 qs) refusal).outcome ≡ o) × ((pick b (room_tests t 0 qs) refusal).place ≡ i) → AtTurn t qs i P
+      by_test true d e = by_turn (done_is _ d) e.1 (refused_at t 0 qs o rule.is_refusal e.0)
+      by_test false d e = absurd (own_tests_not t [] 0 qs e.0)
 
-      so-refused : AtTurn t qs i P → ((pick (is_done (own_tests t [] 0 qs).outcome) (room_tests t 0 qs) refusal).outcome ≡ o) × ((pick (is_done (own_tests t [] 0 qs).outcome) (room_tests t 0 qs) refusal).place ≡ i)
-      so-refused z =
-          let f = fault_at 0 o z.turn rule.is_refusal (turn-fault t qs i g w z) in
+      so_refused : AtTurn t qs i P → ((pick (is_done (own_tests t [] 0 qs).outcome) (room_tests t 0 qs) refusal).outcome ≡ o) × ((pick (is_done (own_tests t [] 0 qs).outcome) (room_tests t 0 qs) refusal).place ≡ i)
+      so_refused z =
+          let f = fault_at 0 o z.turn rule.is_refusal (turn_fault t qs i g w z) in
           let d : is_done (own_tests t [] 0 qs).outcome ≡ true = ap is_done z.own_tests_passed in
           let k : (room_tests t 0 qs).place ≡ i = let p = f.1 in omega arith in
           (simp d f.0, simp d k)

@@ -38,7 +38,7 @@ use Rattle.khuvelter.specs.Calls.Call.{open_table, change, ask}
 use Rattle.promises.specs.Shares.{Step, lent_at, memory_after, Books, opened_books, entered, books_after, Registrable, AtCeiling, NotAdmittedIn, Alone, AtTurn, Exactly, Stands, TheShares}
 use Rattle.promises.proofs.Numbers.{one_number}
 use Rattle.promises.proofs.Past.{registered, quiet}
-use Rattle.promises.proofs.Rooms.{Rule, nineteen, twenty, turn_of, one_turn, alone-exactly, turn-fault, batch-exactly}
+use Rattle.promises.proofs.Rooms.{Rule, nineteen, twenty, turn_of, one_turn, alone_exactly, turn_fault, batch_exactly}
 
 -- ---- an opened table
 
@@ -48,12 +48,12 @@ unfolding planned held_by station_of
 nothing_held [] ca = refl
 nothing_held (a ∷ []) ca = refl
 nothing_held (a ∷ (r ∷ [])) ca = refl
-nothing_held (a ∷ (r ∷ (c ∷ rest))) ca = by-test (nothing_held rest ca) (eqb a ca)
+nothing_held (a ∷ (r ∷ (c ∷ rest))) ca = by_test (nothing_held rest ca) (eqb a ca)
   where
-    by-test : held_by (station_of ca (planned rest)) ≡ 0 → (b : Bool)
+    by_test : held_by (station_of ca (planned rest)) ≡ 0 → (b : Bool)
         → held_by (pick b (some (record { ca = a; reservation = r; ceiling = c; points = [] })) (station_of ca (planned rest))) ≡ 0
-    by-test ih true = refl
-    by-test ih false = ih
+    by_test ih true = refl
+    by_test ih false = ih
 
 -- What the books say of a memory: registry's `After`, of books.
 abbrev Kept : Books → List ℕ → Type 0
@@ -74,21 +74,21 @@ opened k plan m o =
 -- ---- every call keeps the books
 
 module _ (b : Books) (l : Lent) (a : Kept b l.table) where
-  opening-kept : (k : ℕ) (plan : List ℕ) → Kept (entered b (open_table k plan) (reply_to (open_table k plan) l)) (opened_memory k plan l.table)
-  opening-kept k plan = by-test (opens k plan (length l.table)) refl
+  opening_kept : (k : ℕ) (plan : List ℕ) → Kept (entered b (open_table k plan) (reply_to (open_table k plan) l)) (opened_memory k plan l.table)
+  opening_kept k plan = by_test (opens k plan (length l.table)) refl
     where
-      by-test : (t : Bool) → opens k plan (length l.table) ≡ t → Kept (entered b (open_table k plan) (reply_to (open_table k plan) l)) (opened_memory k plan l.table)
-      by-test true e =
+      by_test : (t : Bool) → opens k plan (length l.table) ≡ t → Kept (entered b (open_table k plan) (reply_to (open_table k plan) l)) (opened_memory k plan l.table)
+      by_test true e =
           let n : entered b (open_table k plan) (reply_to (open_table k plan) l) ≡ opened_books k plan = simp e in
           subst (λ (x : Books). Kept x (opened_memory k plan l.table)) (sym n) (opened k plan l.table e)
-      by-test false e =
+      by_test false e =
           let n : entered b (open_table k plan) (reply_to (open_table k plan) l) ≡ b = simp e in
           subst (λ (x : Books). Kept x (opened_memory k plan l.table)) (sym n)
           (subst (λ (m : List ℕ). Kept b m) (sym (refused-opening k plan l.table e)) a)
 
   call_kept : (c : Call) → Kept (entered b c (reply_to c l)) (left_by c l).table
   unfolding memory_after_all tally_after
-  call_kept (open_table k plan) = opening-kept k plan
+  call_kept (open_table k plan) = opening_kept k plan
   call_kept (change (register_point q)) = history b.capacity b.plan l.table b.tally (registered (register_point q) ∷ []) a
   call_kept (change (register_points qs)) = history b.capacity b.plan l.table b.tally (registered (register_points qs) ∷ []) a
   call_kept (change (unregister_point ca ioa)) = history b.capacity b.plan l.table b.tally (registered (unregister_point ca ioa) ∷ []) a
@@ -125,31 +125,31 @@ module _ (b : Books) (m : List ℕ) (a : Kept b m) where
   t = a.table
 
   -- what registration gives back on this memory
-  alone-number : (q : List ℕ) (l : Lent) → l.table ≡ m
+  alone_number : (q : List ℕ) (l : Lent) → l.table ≡ m
       → (reply_to (change (register_point q)) l).number ≡ number_of (request_outcome t (request_at q 0) (station_of (request_at q 0).ca t.stations))
   unfolding registering reply_from
-  alone-number q l e =
+  alone_number q l e =
       ap (λ (x : List ℕ). number_of (reply_on (registering (request_at q 0)) x).outcome) e ∙ ap (λ (x : Option Table). number_of (reply_from (registering (request_at q 0)) x).outcome) a.read
 
-  alone-rule : (o : Outcome) (P : Table → Station → Type 0) → Rule o P → (q : List ℕ) (l : Lent) → l.table ≡ m
+  alone_rule : (o : Outcome) (P : Table → Station → Type 0) → Rule o P → (q : List ℕ) (l : Lent) → l.table ≡ m
       → Exactly ((reply_to (change (register_point q)) l).number ≡ number_of o) (Alone t (request_at q 0) P)
-  alone-rule o P rule q l e =
-      let x = alone-exactly o P rule t (request_at q 0) a.is_good in
+  alone_rule o P rule q l e =
+      let x = alone_exactly o P rule t (request_at q 0) a.is_good in
       record {
-        only = λ n. x.only (one_number _ o (sym (alone-number q l e) ∙ n));
-        always = λ z. alone-number q l e ∙ ap number_of (x.always z);
+        only = λ n. x.only (one_number _ o (sym (alone_number q l e) ∙ n));
+        always = λ z. alone_number q l e ∙ ap number_of (x.always z);
       }
 
   -- what a batch gives back on this memory
-  batch-reply : (qs : List Request) → reply_on (registering_all qs) m ≡ record { outcome = (registering_all qs t).outcome; place = (registering_all qs t).place }
+  batch_reply : (qs : List Request) → reply_on (registering_all qs) m ≡ record { outcome = (registering_all qs t).outcome; place = (registering_all qs t).place }
   unfolding reply_from
-  batch-reply qs = ap (reply_from (registering_all qs)) a.read
+  batch_reply qs = ap (reply_from (registering_all qs)) a.read
 
-  batch-rule : (o : Outcome) (P : Table → Station → Type 0) → Rule o P → (qs : List ℕ) (i : ℕ)
+  batch_rule : (o : Outcome) (P : Table → Station → Type 0) → Rule o P → (qs : List ℕ) (i : ℕ)
       → Exactly (reply_on (registering_all (requests_in qs)) m ≡ record { outcome = o; place = i }) (AtTurn t (requests_in qs) i P)
-  batch-rule o P rule qs i =
-      let x = batch-exactly o P rule t (requests_in qs) i a.is_good (all_twelve qs 0 _) in
-      let r = batch-reply (requests_in qs) in
+  batch_rule o P rule qs i =
+      let x = batch_exactly o P rule t (requests_in qs) i a.is_good (all_twelve qs 0 _) in
+      let r = batch_reply (requests_in qs) in
       record {
         only = λ e. x.only (ap (λ (y : TableReply). y.outcome) (sym r ∙ e), ap (λ (y : TableReply). y.place) (sym r ∙ e));
         always = λ z. let n = x.always z in r ∙ (λ j. record { outcome = n.0 j; place = n.1 j });
@@ -158,11 +158,11 @@ module _ (b : Books) (m : List ℕ) (a : Kept b m) where
   never : (qs : List ℕ) (i : ℕ) → AtTurn t (requests_in qs) i (λ u s. held s < s.reservation) → (o : Outcome) (P : Table → Station → Type 0) → Rule o P
       → reply_on (registering_all (requests_in qs)) m ≡ record { outcome = o; place = i } → ⊥
   never qs i z o P rule e =
-      let y = (batch-rule o P rule qs i).only e in
+      let y = (batch_rule o P rule qs i).only e in
       let same = one_turn z.turn y.turn in
       let good = turn_good t (requests_in qs) z.table z.asks a.is_good (own_tests_ready t [] 0 (requests_in qs) z.own_tests_passed).0 (all_twelve qs 0 _) (turn_of z.turn) in
       let room : room_fault z.table (station_of z.asks.ca z.table.stations) ≡ Done = below_reservation_has_room z.table z.asks.ca z.station good.0 z.of_station z.so in
-      let fault = turn-fault o P rule t (requests_in qs) i a.is_good (all_twelve qs 0 _) y in
+      let fault = turn_fault o P rule t (requests_in qs) i a.is_good (all_twelve qs 0 _) y in
       let done : Done ≡ o = sym room ∙ ap₂ (λ (u : Table) (r : Request). room_fault u (station_of r.ca u.stations)) same.0 same.1 ∙ fault in
       not_both (sym rule.is_refusal ∙ sym (ap is_done done))
 
@@ -178,14 +178,14 @@ module _ (b : Books) (m : List ℕ) (a : Kept b m) where
         never_below = λ ca. let c = a.counts ca in omega arith;
         ceilings = λ ca s e. (station_numbers t ca s a.is_good e).held_within;
         granted_alone = λ q l s e r h.
-            alone-number q l e ∙ ap number_of (granted t (request_at q 0) s a.is_good r h);
+            alone_number q l e ∙ ap number_of (granted t (request_at q 0) s a.is_good r h);
         never_refused = λ qs i z o f e.
             ⊎_elim (λ (x : o ≡ CeilingReached). never qs i z CeilingReached AtCeiling nineteen (subst (λ (y : Outcome). reply_on (registering_all (requests_in qs)) m ≡ record { outcome = y; place = i }) x e))
             (λ (x : o ≡ NotAdmitted). never qs i z NotAdmitted NotAdmittedIn twenty (subst (λ (y : Outcome). reply_on (registering_all (requests_in qs)) m ≡ record { outcome = y; place = i }) x e)) f;
-        ceiling_alone = alone-rule CeilingReached AtCeiling nineteen;
-        room_alone = alone-rule NotAdmitted NotAdmittedIn twenty;
-        ceiling_in_batch = batch-rule CeilingReached AtCeiling nineteen;
-        room_in_batch = batch-rule NotAdmitted NotAdmittedIn twenty;
+        ceiling_alone = alone_rule CeilingReached AtCeiling nineteen;
+        room_alone = alone_rule NotAdmitted NotAdmittedIn twenty;
+        ceiling_in_batch = batch_rule CeilingReached AtCeiling nineteen;
+        room_in_batch = batch_rule NotAdmitted NotAdmittedIn twenty;
       }
 
 -- ---- demand 3

@@ -41,11 +41,11 @@ use Rattle.report.specs.Selection.{selects, interrogation_types, interrogation_t
 use Rattle.report.specs.Report.{of_kind, report}
 use Rattle.report.specs.Order.{points_of, all_points, by_address, points_for}
 use Rattle.asdu.specs.Header.{Asdu, global_address, asdu_octets, wire}
-use Rattle.report.proofs.Packing.{length-joined}
-use Rattle.report.proofs.Each.{each_append, each-selected}
-use Rattle.report.proofs.Order.{length_sorted, sorted-each}
+use Rattle.report.proofs.Packing.{length_joined}
+use Rattle.report.proofs.Each.{each_append, each_selected}
+use Rattle.report.proofs.Order.{length_sorted, sorted_each}
 use Rattle.report.specs.Single.{requested_asdu, end_of_initialization_asdu, station_common_address}
-use Rattle.report.proofs.Report.{Whole, length-report}
+use Rattle.report.proofs.Report.{Whole, length_report}
 use Rattle.report.proofs.Single.{length_single, length_end}
 use Rattle.answers.specs.System.{qualifier_of, confirmed, denied, echoed, terminated, reported, answer_to, interrogation_answer, counter_answer, counter_cause, chosen, interrogated, addresses_in, points_asked, points_read, read_answer, interrogation_type, counters_type, read_type, command_said, cause_taken, is_silent, system_from}
 use Rattle.answers.specs.declared.Choice.{Choice}
@@ -81,11 +81,11 @@ runs_small f h (k ∷ ks) =
 selected_shorter : {A : Type 0} (test : A → Bool) (xs : List A) → length (selected test xs) ≤ length xs
 unfolding selected
 selected_shorter test [] = omega arith
-selected_shorter test (x ∷ xs) = by-test (selected_shorter test xs) (test x)
+selected_shorter test (x ∷ xs) = by_test (selected_shorter test xs) (test x)
   where
-    by-test : length (selected test xs) ≤ length xs → (b : Bool) → length (pick b (x ∷ selected test xs) (selected test xs)) ≤ suc (length xs)
-    by-test ih true = omega arith
-    by-test ih false = omega arith
+    by_test : length (selected test xs) ≤ length xs → (b : Bool) → length (pick b (x ∷ selected test xs) (selected test xs)) ≤ suc (length xs)
+    by_test ih true = omega arith
+    by_test ih false = omega arith
 
 -- A station of a good table has at most 4,096 points.
 station_small : (t : Table) (ca : ℕ) (s : Station) → Good t → station_of ca t.stations ≡ some s → length s.points ≤ 4096
@@ -101,7 +101,7 @@ station_small t ca s g e =
 report_small : (limit : ℕ) → 25 ≤ limit → (types : List ℕ) (cause ca : ℕ) (ps : List Point) → length types ≤ 30 → Each Whole ps → length ps ≤ 4096
     → size (report limit types cause ca ps) ≤ 3000000
 report_small limit least types cause ca ps few w h =
-    let l = length-report limit (omega arith) types cause ca ps w in
+    let l = length_report limit (omega arith) types cause ca ps w in
     let b = runs_small (λ kind. run_octets limit (point_octets kind) (length (of_kind kind ps)))
     (λ kind.
     let q = selected_shorter (λ (x : Point). eqb x.kind kind) ps in
@@ -119,7 +119,7 @@ few_selected : (test : Point → Bool) (ps : List Point) → Few ps → Few (sel
 few_selected test ps f =
     let s = selected_shorter test ps in
     let n = f.few in
-    record { are_whole = each-selected Whole test ps f.are_whole; few = omega arith }
+    record { are_whole = each_selected Whole test ps f.are_whole; few = omega arith }
 
 few_own : (t : Table) (ca : ℕ) → Good t → (o : Option Station) → station_of ca t.stations ≡ o → Few (points_of o)
 unfolding Each
@@ -136,18 +136,18 @@ few_all : (t : Table) → Good t → Few (by_address (all_points t.stations))
 unfolding all_points
 few_all t g =
     let l = length_sorted (λ (p : Point). p.ioa) (joined (λ s. s.points) t.stations) in
-    let n = length-joined (λ (s : Station). s.points) t.stations in
+    let n = length_joined (λ (s : Station). s.points) t.stations in
     let few = g.few in
     let k = g.k_high in
-    record { are_whole = sorted-each (λ (p : Point). p.ioa) Whole (joined (λ s. s.points) t.stations) (all_whole t.stations g.rises); few = omega arith }
+    record { are_whole = sorted_each (λ (p : Point). p.ioa) Whole (joined (λ s. s.points) t.stations) (all_whole t.stations g.rises); few = omega arith }
 
 few_for : (t : Table) (ca : ℕ) → Good t → Few (points_for ca t.stations)
 unfolding points_for
-few_for t ca g = by-test (eqb ca global_address)
+few_for t ca g = by_test (eqb ca global_address)
   where
-    by-test : (b : Bool) → Few (pick b (by_address (all_points t.stations)) (points_of (station_of ca t.stations)))
-    by-test true = few_all t g
-    by-test false = few_own t ca g (station_of ca t.stations) refl
+    by_test : (b : Bool) → Few (pick b (by_address (all_points t.stations)) (points_of (station_of ca t.stations)))
+    by_test true = few_all t g
+    by_test false = few_own t ca g (station_of ca t.stations) refl
 
 thirty : (t : Table) → length (interrogation_types_of t) ≤ 30
 unfolding interrogation_types interrogation_types_of
@@ -163,11 +163,11 @@ ne_zero (suc n) h = omega arith
 each_found : (P : Point → Type 0) (ioa : ℕ) (ps : List Point) (p : Point) → Each P ps → point_in ioa ps ≡ some p → P p
 unfolding Each point_in
 each_found P ioa [] p h e = let z : ◌≡◌ {A = ℕ} 0 1 = cc in absurd (omega arith)
-each_found P ioa (q ∷ qs) p h e = by-test (each_found P ioa qs p h.1) (eqb q.ioa ioa) e
+each_found P ioa (q ∷ qs) p h e = by_test (each_found P ioa qs p h.1) (eqb q.ioa ioa) e
   where
-    by-test : (point_in ioa qs ≡ some p → P p) → (b : Bool) → pick b (some q) (point_in ioa qs) ≡ some p → P p
-    by-test ih true f = let s : q ≡ p = cc in subst P s h.0
-    by-test ih false f = ih f
+    by_test : (point_in ioa qs ≡ some p → P p) → (b : Bool) → pick b (some q) (point_in ioa qs) ≡ some p → P p
+    by_test ih true f = let s : q ≡ p = cc in subst P s h.0
+    by_test ih false f = ih f
 
 -- Points of twelve octets, at most n of them; or none where an address is missing.
 AskedFew : ℕ → Option (List Point) → Type 0
@@ -177,13 +177,13 @@ AskedFew n (some qs) = Each Whole qs × (length qs ≤ n)
 asked_few : (as' : List ℕ) (ps : List Point) → Each Whole ps → AskedFew (length as') (points_asked as' ps)
 unfolding AskedFew points_asked Each
 asked_few [] ps w = (tt, omega arith)
-asked_few (a ∷ as') ps w = by-point (point_in a ps) refl (points_asked as' ps) refl (asked_few as' ps w)
+asked_few (a ∷ as') ps w = by_point (point_in a ps) refl (points_asked as' ps) refl (asked_few as' ps w)
   where
-    by-point : (o : Option Point) → point_in a ps ≡ o → (r : Option (List Point)) → points_asked as' ps ≡ r → AskedFew (length as') r
+    by_point : (o : Option Point) → point_in a ps ≡ o → (r : Option (List Point)) → points_asked as' ps ≡ r → AskedFew (length as') r
         → AskedFew (suc (length as')) (points_asked (a ∷ as') ps)
-    by-point none e r f ih = simp e tt
-    by-point (some p) e none f ih = simp (e, f) tt
-    by-point (some p) e (some qs) f ih = simp (e, f) ((each_found Whole a ps p w e, ih.0), omega arith)
+    by_point none e r f ih = simp e tt
+    by_point (some p) e none f ih = simp (e, f) tt
+    by_point (some p) e (some qs) f ih = simp (e, f) ((each_found Whole a ps p w e, ih.0), omega arith)
 
 addresses_length : (m : List ℕ) (at n : ℕ) → length (addresses_in m at n) ≡ n
 unfolding addresses_in
@@ -226,43 +226,43 @@ unfolding counter_types
 two_types = omega arith
 
 module _ (m : List ℕ) (c : Command) (t : Table) (g : Good t) (w : WellRead (limit_of t) SystemCommands m c) (some-object : 0 < c.count) where
-  reply-small : (cause : ℕ) (negative : Bool) → length (asdu_octets (confirmation c m cause negative)) ≤ 249
-  reply-small cause negative =
+  reply_small : (cause : ℕ) (negative : Bool) → length (asdu_octets (confirmation c m cause negative)) ≤ 249
+  reply_small cause negative =
       let most = limit_most t (is_good t g) in
       let l = confirmation_fits (limit_of t) SystemCommands c m cause negative w some-object in
       omega arith
 
-  reported-small : (types : List ℕ) (cause : ℕ) (sel : Selection) → length types ≤ 30 → size (reported t c m types cause sel) ≤ 4000000
+  reported_small : (types : List ℕ) (cause : ℕ) (sel : Selection) → length types ≤ 30 → size (reported t c m types cause sel) ≤ 4000000
   unfolding reported
-  reported-small types cause sel few =
+  reported_small types cause sel few =
       let x : List Asdu = report (limit_of t) types cause c.ca (selected (selects sel) (points_for c.ca t.stations)) in
       let f = few_selected (selects sel) (points_for c.ca t.stations) (few_for t c.ca g) in
       let r = report_small (limit_of t) (limit_least t (is_good t g)) types cause c.ca (selected (selects sel) (points_for c.ca t.stations)) few f.are_whole f.few in
-      let one = reply-small 7 false in
-      let two = reply-small 10 false in
+      let one = reply_small 7 false in
+      let two = reply_small 10 false in
       let a = size_more (confirmed c m) (x ++ (terminated c m ∷ [])) in
       let b = size_append x (terminated c m ∷ []) in
       let d = size_one (terminated c m) in
       omega arith
 
-  pub answer-small : (types : List ℕ) (cause : ℕ) (x : Choice) → length types ≤ 30 → size (answer_to t c m types cause x) ≤ 4000000
+  pub answer_small : (types : List ℕ) (cause : ℕ) (x : Choice) → length types ≤ 30 → size (answer_to t c m types cause x) ≤ 4000000
   unfolding answer_to
-  answer-small types cause Denied few =
-      let r = reply-small 7 true in
+  answer_small types cause Denied few =
+      let r = reply_small 7 true in
       let d = size_one (denied c m) in
       omega arith
-  answer-small types cause (Selected sel) few = reported-small types cause sel few
+  answer_small types cause (Selected sel) few = reported_small types cause sel few
 
-  pub interrogation-small : size (interrogation_answer c m t) ≤ 4000000
+  pub interrogation_small : size (interrogation_answer c m t) ≤ 4000000
   unfolding interrogation_answer
-  interrogation-small = answer-small (interrogation_types_of t) (qualifier_of m) (interrogated (qualifier_of m)) (thirty t)
+  interrogation_small = answer_small (interrogation_types_of t) (qualifier_of m) (interrogated (qualifier_of m)) (thirty t)
 
-  counter-small : size (counter_answer c m t) ≤ 4000000
+  counter_small : size (counter_answer c m t) ≤ 4000000
   unfolding counter_answer
-  counter-small = answer-small counter_types (counter_cause (qualifier_of m)) (chosen (qualifier_of m)) two_types
+  counter_small = answer_small counter_types (counter_cause (qualifier_of m)) (chosen (qualifier_of m)) two_types
 
-  echo-small : (cause : ℕ) (negative : Bool) → length (asdu_octets (echo c m cause negative)) ≤ 249
-  echo-small cause negative =
+  echo_small : (cause : ℕ) (negative : Bool) → length (asdu_octets (echo c m cause negative)) ≤ 249
+  echo_small cause negative =
       let most = limit_most t (is_good t g) in
       let l = echo_fits (limit_of t) SystemCommands c m cause negative w in
       omega arith
@@ -270,11 +270,11 @@ module _ (m : List ℕ) (c : Command) (t : Table) (g : Good t) (w : WellRead (li
   read_small : (o : Option (List Point)) → AskedFew c.count o → size (read_answer c m o) ≤ 4000000
   unfolding read_answer AskedFew
   read_small none f =
-      let e = echo-small 7 true in
+      let e = echo_small 7 true in
       let d = size_one (echoed c m true) in
       omega arith
   read_small (some qs) f =
-      let e = echo-small 7 false in
+      let e = echo_small 7 false in
       let r = requested_small c.ca qs f.0 in
       let n = f.1 in
       let few = w.few in
@@ -282,16 +282,16 @@ module _ (m : List ℕ) (c : Command) (t : Table) (g : Good t) (w : WellRead (li
       omega arith
 
   -- What a command that is taken says.
-  command-small : (clock : List ℕ) → Small (command_said clock m c t)
+  command_small : (clock : List ℕ) → Small (command_said clock m c t)
   unfolding command_said
-  command-small clock =
+  command_small clock =
       let asked : AskedFew c.count (points_read c m t) =
       subst (λ (n : ℕ). AskedFew n (points_read c m t)) (addresses_length m header_octets c.count)
       (asked_few (addresses_in m header_octets c.count) (points_of (station_of c.ca t.stations)) (few_own t c.ca g (station_of c.ca t.stations) refl).are_whole) in
-      let z = echo-small 7 false in
+      let z = echo_small 7 false in
       let d = size_one (echoed c m false) in
-      pick_small (eqb c.kind interrogation_type) _ _ (record { is_small = interrogation-small })
-      (pick_small (eqb c.kind counters_type) _ _ (record { is_small = counter-small })
+      pick_small (eqb c.kind interrogation_type) _ _ (record { is_small = interrogation_small })
+      (pick_small (eqb c.kind counters_type) _ _ (record { is_small = counter_small })
       (pick_small (eqb c.kind read_type) _ _ (record { is_small = read_small _ asked }) (record { is_small = omega arith })))
 
 unsaid_small : (o : Outcome) (t : Table) (clock : List ℕ) → Small (unsaid o t clock)
@@ -311,7 +311,7 @@ system_small clock m t g (Parsed c) e = by_count (eqb c.count 0) refl
     by_count false n =
         pick_small (not (cause_taken c.kind c.cause) || (eqb c.kind interrogation_type & eqb (qualifier_of m) 0)) (unsaid Silent t clock) (command_said clock m c t)
         (unsaid_small Silent t clock)
-        (command-small m c t g (parsed_is (limit_of t) SystemCommands m c e) (ne_zero c.count (eqb-false _ _ n)) clock)
+        (command_small m c t g (parsed_is (limit_of t) SystemCommands m c e) (ne_zero c.count (eqb-false _ _ n)) clock)
 
 -- What any process command says to the answer memory.
 process_small : (clock : List ℕ) (p : Proposal) (t : Table) → Good t → (r : Reading) → Small (process_from clock p r t)
@@ -320,17 +320,17 @@ process_small clock p t g LengthOutOfRange = unsaid_small _ t clock
 process_small clock p t g TypeNotServed = unsaid_small _ t clock
 process_small clock p t g ObjectsNotWhole = unsaid_small _ t clock
 process_small clock p t g (Parsed c) =
-    pick_small (process_cause_taken c.cause) _ _ (by-proposal (proposal_ok (limit_of t) p.kind p.objects) refl) (unsaid_small Silent t clock)
+    pick_small (process_cause_taken c.cause) _ _ (by_proposal (proposal_ok (limit_of t) p.kind p.objects) refl) (unsaid_small Silent t clock)
   where
-    by-proposal : (b : Bool) → proposal_ok (limit_of t) p.kind p.objects ≡ b
+    by_proposal : (b : Bool) → proposal_ok (limit_of t) p.kind p.objects ≡ b
         → Small (pick b (record { outcome = Done; answer = process_reply c p ∷ []; told = told_by t (read_updates p); after = table_after t (read_updates p); clock = clock }) (unsaid BadProposal t clock))
-    by-proposal true e =
+    by_proposal true e =
         let few = most_reply (limit_of t) p.kind p.objects e in
         let most = limit_most t (is_good t g) in
         let l = length_confirmed c p (whole_reply (limit_of t) p.kind p.objects e) in
         let d = size_one (process_reply c p) in
         record { is_small = omega arith }
-    by-proposal false e = unsaid_small BadProposal t clock
+    by_proposal false e = unsaid_small BadProposal t clock
 
 -- What any question says to a good table.
 pub question_small : (q : Question) (clock : List ℕ) (t : Table) → Good t → Small (said_by q clock t)
@@ -341,12 +341,12 @@ question_small (process m n k r us) clock t g = process_small clock (proposal_of
 -- What is small is reported whole in 32 bits, whatever is said to a good table.
 pub small_whole : (f : Table → Said) (l : Lent) → Octets l.table → ((t : Table) → Good t → Small (f t)) → narrowed (answered_on f l).octets ≡ (answered_on f l).octets
 unfolding answered_from
-small_whole f l o s = of-parsed (parse l.table) refl
+small_whole f l o s = of_parsed (parse l.table) refl
   where
-    by-test : (b : Bool) (n : ℕ) → n ≤ 4000000 → narrowed (pick b n 0) ≡ pick b n 0
-    by-test true n h = whole n (omega arith)
-    by-test false n h = refl
+    by_test : (b : Bool) (n : ℕ) → n ≤ 4000000 → narrowed (pick b n 0) ≡ pick b n 0
+    by_test true n h = whole n (omega arith)
+    by_test false n h = refl
 
-    of-parsed : (x : Option Table) → parse l.table ≡ x → narrowed (answered_from f l x).octets ≡ (answered_from f l x).octets
-    of-parsed none e = refl
-    of-parsed (some t) e = by-test (is_done (outcome_with (f t) l)) (size (f t).answer) (s t (good_is t (parse_sound l.table t o e).0)).is_small
+    of_parsed : (x : Option Table) → parse l.table ≡ x → narrowed (answered_from f l x).octets ≡ (answered_from f l x).octets
+    of_parsed none e = refl
+    of_parsed (some t) e = by_test (is_done (outcome_with (f t) l)) (size (f t).answer) (s t (good_is t (parse_sound l.table t o e).0)).is_small

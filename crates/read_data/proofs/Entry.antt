@@ -43,24 +43,24 @@ use Rattle.read_data.specs.Reads.{asked_of, together, asked_at, requested_of, re
 not_in : (a : ℕ) (ps : List Point) → known a ps ≡ false → point_in a ps ≡ none
 unfolding known point_in
 not_in a [] k = refl
-not_in a (p ∷ ps) k = by-test (λ e. not_in a ps e) (eqb p.ioa a) k
+not_in a (p ∷ ps) k = by_test (λ e. not_in a ps e) (eqb p.ioa a) k
   where
-    by-test : (known a ps ≡ false → point_in a ps ≡ none) → (b : Bool) → pick b true (known a ps) ≡ false → pick b (some p) (point_in a ps) ≡ none
-    by-test ih true e = not_both (sym e)
-    by-test ih false e = ih e
+    by_test : (known a ps ≡ false → point_in a ps ≡ none) → (b : Bool) → pick b true (known a ps) ≡ false → pick b (some p) (point_in a ps) ≡ none
+    by_test ih true e = not_both (sym e)
+    by_test ih false e = ih e
 
 module _ (a : ℕ) (rest : List ℕ) (ps : List Point) where
-  asked-none : point_in a ps ≡ none → points_asked (a ∷ rest) ps ≡ none
+  asked_none : point_in a ps ≡ none → points_asked (a ∷ rest) ps ≡ none
   unfolding points_asked
-  asked-none e = simp e
+  asked_none e = simp e
 
-  asked-not-all : (p : Point) → point_in a ps ≡ some p → points_asked rest ps ≡ none → points_asked (a ∷ rest) ps ≡ none
+  asked_not_all : (p : Point) → point_in a ps ≡ some p → points_asked rest ps ≡ none → points_asked (a ∷ rest) ps ≡ none
   unfolding points_asked
-  asked-not-all p e f = simp (e, f)
+  asked_not_all p e f = simp (e, f)
 
-  asked-some : (p : Point) (qs : List Point) → point_in a ps ≡ some p → points_asked rest ps ≡ some qs → points_asked (a ∷ rest) ps ≡ some (p ∷ qs)
+  asked_some : (p : Point) (qs : List Point) → point_in a ps ≡ some p → points_asked rest ps ≡ some qs → points_asked (a ∷ rest) ps ≡ some (p ∷ qs)
   unfolding points_asked
-  asked-some p qs e f = simp (e, f)
+  asked_some p qs e f = simp (e, f)
 
 -- ---- over rising points
 
@@ -80,7 +80,7 @@ module _ (m : List ℕ) (first h ca : ℕ) (asdu : List ℕ) (r : rising 0 (poin
   asked_is : (at n : ℕ) → asked_at m first h asdu at n ≡ counted ca (points_asked (addresses_in asdu at n) (points_at m first h))
   unfolding asked_at asked_of addresses_in counted points_asked wire joined
   asked_is at zero = refl
-  asked_is at (suc n) = by-spot (find_at m first h (three asdu at)) refl (asked_is (at + 3) n)
+  asked_is at (suc n) = by_spot (find_at m first h (three asdu at)) refl (asked_is (at + 3) n)
     where
       a : ℕ
       a = three asdu at
@@ -91,23 +91,23 @@ module _ (m : List ℕ) (first h ca : ℕ) (asdu : List ℕ) (r : rising 0 (poin
       ps : List Point
       ps = points_at m first h
 
-      by-rest : (p : ℕ) → point_in a ps ≡ some (point_at m p) → (x : Option (List Point)) → points_asked rest ps ≡ x → asked_at m first h asdu (at + 3) n ≡ counted ca x
+      by_rest : (p : ℕ) → point_in a ps ≡ some (point_at m p) → (x : Option (List Point)) → points_asked rest ps ≡ x → asked_at m first h asdu (at + 3) n ≡ counted ca x
           → together (Known (9 + point_octets (get_or m p 0))) (asked_at m first h asdu (at + 3) n) ≡ counted ca (points_asked (a ∷ rest) ps)
-      by-rest p e none f ih =
-          ap (together (Known (9 + point_octets (get_or m p 0)))) ih ∙ ap (counted ca) (sym (asked-not-all a rest ps (point_at m p) e f))
-      by-rest p e (some qs) f ih =
-          ap (together (Known (9 + point_octets (get_or m p 0)))) ih ∙ ap Known (one_more m ca p qs) ∙ ap (counted ca) (sym (asked-some a rest ps (point_at m p) qs e f))
+      by_rest p e none f ih =
+          ap (together (Known (9 + point_octets (get_or m p 0)))) ih ∙ ap (counted ca) (sym (asked_not_all a rest ps (point_at m p) e f))
+      by_rest p e (some qs) f ih =
+          ap (together (Known (9 + point_octets (get_or m p 0)))) ih ∙ ap Known (one_more m ca p qs) ∙ ap (counted ca) (sym (asked_some a rest ps (point_at m p) qs e f))
 
-      by-spot : (x : Spot) → find_at m first h a ≡ x → asked_at m first h asdu (at + 3) n ≡ counted ca (points_asked rest ps)
+      by_spot : (x : Spot) → find_at m first h a ≡ x → asked_at m first h asdu (at + 3) n ≡ counted ca (points_asked rest ps)
           → together (asked_of m x) (asked_at m first h asdu (at + 3) n) ≡ counted ca (points_asked (a ∷ rest) ps)
-      by-spot (Held p) e ih = by-rest p (held_law m first h a p r e).is_point (points_asked rest ps) refl ih
-      by-spot (Missing p) e ih = ap (counted ca) (sym (asked-none a rest ps (not_in a ps (missing_law m first h a p r e).not_known)))
+      by_spot (Held p) e ih = by_rest p (held_law m first h a p r e).is_point (points_asked rest ps) refl ih
+      by_spot (Missing p) e ih = ap (counted ca) (sym (asked_none a rest ps (not_in a ps (missing_law m first h a p r e).not_known)))
 
-  requested-is : (at n : ℕ) (qs : List Point) → points_asked (addresses_in asdu at n) (points_at m first h) ≡ some qs
+  requested_is : (at n : ℕ) (qs : List Point) → points_asked (addresses_in asdu at n) (points_at m first h) ≡ some qs
       → requested_at m first h ca asdu at n ≡ map (requested_asdu ca) qs
   unfolding requested_at requested_of addresses_in points_asked
-  requested-is at zero qs e = let q : [] ≡ qs = cc in ap (map (requested_asdu ca)) q
-  requested-is at (suc n) qs e = by-spot (λ x f. requested-is (at + 3) n x f) (find_at m first h (three asdu at)) refl
+  requested_is at zero qs e = let q : [] ≡ qs = cc in ap (map (requested_asdu ca)) q
+  requested_is at (suc n) qs e = by_spot (λ x f. requested_is (at + 3) n x f) (find_at m first h (three asdu at)) refl
     where
       a : ℕ
       a = three asdu at
@@ -118,23 +118,23 @@ module _ (m : List ℕ) (first h ca : ℕ) (asdu : List ℕ) (r : rising 0 (poin
       ps : List Point
       ps = points_at m first h
 
-      by-rest : ((x : List Point) → points_asked rest ps ≡ some x → requested_at m first h ca asdu (at + 3) n ≡ map (requested_asdu ca) x)
+      by_rest : ((x : List Point) → points_asked rest ps ≡ some x → requested_at m first h ca asdu (at + 3) n ≡ map (requested_asdu ca) x)
           → (p : ℕ) → point_in a ps ≡ some (point_at m p) → (x : Option (List Point)) → points_asked rest ps ≡ x
           → requested_asdu ca (point_at m p) ∷ requested_at m first h ca asdu (at + 3) n ≡ map (requested_asdu ca) qs
-      by-rest again p d none f =
-          let g : none ≡ some qs = sym (asked-not-all a rest ps (point_at m p) d f) ∙ e in
+      by_rest again p d none f =
+          let g : none ≡ some qs = sym (asked_not_all a rest ps (point_at m p) d f) ∙ e in
           let z : ◌≡◌ {A = ℕ} 0 1 = cc in
           absurd (omega arith)
-      by-rest again p d (some x) f =
-          let g : some (point_at m p ∷ x) ≡ some qs = sym (asked-some a rest ps (point_at m p) x d f) ∙ e in
+      by_rest again p d (some x) f =
+          let g : some (point_at m p ∷ x) ≡ some qs = sym (asked_some a rest ps (point_at m p) x d f) ∙ e in
           let q : point_at m p ∷ x ≡ qs = cc in
           ap (λ (l : List Asdu). requested_asdu ca (point_at m p) ∷ l) (again x f) ∙ ap (map (requested_asdu ca)) q
 
-      by-spot : ((x : List Point) → points_asked rest ps ≡ some x → requested_at m first h ca asdu (at + 3) n ≡ map (requested_asdu ca) x)
+      by_spot : ((x : List Point) → points_asked rest ps ≡ some x → requested_at m first h ca asdu (at + 3) n ≡ map (requested_asdu ca) x)
           → (x : Spot) → find_at m first h a ≡ x → requested_of m ca x ++ requested_at m first h ca asdu (at + 3) n ≡ map (requested_asdu ca) qs
-      by-spot again (Held p) d = by-rest again p (held_law m first h a p r d).is_point (points_asked rest ps) refl
-      by-spot again (Missing p) d =
-          let g : none ≡ some qs = sym (asked-none a rest ps (not_in a ps (missing_law m first h a p r d).not_known)) ∙ e in
+      by_spot again (Held p) d = by_rest again p (held_law m first h a p r d).is_point (points_asked rest ps) refl
+      by_spot again (Missing p) d =
+          let g : none ≡ some qs = sym (asked_none a rest ps (not_in a ps (missing_law m first h a p r d).not_known)) ∙ e in
           let z : ◌≡◌ {A = ℕ} 0 1 = cc in
           absurd (omega arith)
 
@@ -149,15 +149,15 @@ pub record Requested (m : List ℕ) (first h : ℕ) (c : Command) (asdu : List �
 
 module _ (m : List ℕ) (i first h : ℕ) (o : Octets m) (w : well_formed m ≡ true) (c : Command) (e : seat_at m c.ca ≡ Here i first h) where
   -- the points at the seat are the station's, and they rise
-  seat-rises : rising 0 (points_at m first h) ≡ true
-  seat-rises = let z = seat_law m c.ca i first h o w e in ap (rising 0) z.points ∙ z.rises
+  seat_rises : rising 0 (points_at m first h) ≡ true
+  seat_rises = let z = seat_law m c.ca i first h o w e in ap (rising 0) z.points ∙ z.rises
 
   seat_points : points_at m first h ≡ points_of (station_of c.ca (table_of m).stations)
   seat_points = let z = seat_law m c.ca i first h o w e in z.points ∙ sym (ap points_of z.seat.is_station)
 
   -- What the code asks of the numbers.
-  pub read-bounds : first + place_size * h ≤ length m
-  read-bounds =
+  pub read_bounds : first + place_size * h ≤ length m
+  read_bounds =
       let p = passed m w in
       let r = p.top.room in
       let few = p.few in
@@ -167,31 +167,31 @@ module _ (m : List ℕ) (i first h : ℕ) (o : Octets m) (w : well_formed m ≡ 
   module _ (asdu : List ℕ) where
     counted_is : asked_at m first h asdu header_octets c.count ≡ counted c.ca (points_read c asdu (table_of m))
     counted_is =
-        asked_is m first h c.ca asdu seat-rises header_octets c.count
+        asked_is m first h c.ca asdu seat_rises header_octets c.count
         ∙ ap (λ (ps : List Point). counted c.ca (points_asked (addresses_in asdu header_octets c.count) ps)) seat_points
 
     data_is : (qs : List Point) → points_read c asdu (table_of m) ≡ some qs → requested_by m first h c asdu ≡ map (requested_asdu c.ca) qs
     data_is qs f =
-        requested-is m first h c.ca asdu seat-rises header_octets c.count qs
+        requested_is m first h c.ca asdu seat_rises header_octets c.count qs
         (ap (λ (ps : List Point). points_asked (addresses_in asdu header_octets c.count) ps) seat_points ∙ f)
 
     -- The octets were counted: every address is known, and these are the points.
-    pub requested-law : (octets : ℕ) → Known octets ≡ asked_at m first h asdu header_octets c.count → Requested m first h c asdu octets
+    pub requested_law : (octets : ℕ) → Known octets ≡ asked_at m first h asdu header_octets c.count → Requested m first h c asdu octets
     unfolding counted
-    requested-law octets f = by-asked (points_read c asdu (table_of m)) refl (f ∙ counted_is)
+    requested_law octets f = by_asked (points_read c asdu (table_of m)) refl (f ∙ counted_is)
       where
-        by-asked : (x : Option (List Point)) → points_read c asdu (table_of m) ≡ x → Known octets ≡ counted c.ca x → Requested m first h c asdu octets
-        by-asked none d g = let z : ◌≡◌ {A = ℕ} 0 1 = cc in absurd (omega arith)
-        by-asked (some qs) d g = record { points = qs; is_asked = d; is_octets = cc; is_data = data_is qs d }
+        by_asked : (x : Option (List Point)) → points_read c asdu (table_of m) ≡ x → Known octets ≡ counted c.ca x → Requested m first h c asdu octets
+        by_asked none d g = let z : ◌≡◌ {A = ℕ} 0 1 = cc in absurd (omega arith)
+        by_asked (some qs) d g = record { points = qs; is_asked = d; is_octets = cc; is_data = data_is qs d }
 
     -- An address is missing: no points are asked for.
-    pub missing-address-law : AddressMissing ≡ asked_at m first h asdu header_octets c.count → points_read c asdu (table_of m) ≡ none
+    pub missing_address_law : AddressMissing ≡ asked_at m first h asdu header_octets c.count → points_read c asdu (table_of m) ≡ none
     unfolding counted
-    missing-address-law f = by-asked (points_read c asdu (table_of m)) refl (f ∙ counted_is)
+    missing_address_law f = by_asked (points_read c asdu (table_of m)) refl (f ∙ counted_is)
       where
-        by-asked : (x : Option (List Point)) → points_read c asdu (table_of m) ≡ x → AddressMissing ≡ counted c.ca x → points_read c asdu (table_of m) ≡ none
-        by-asked none d g = d
-        by-asked (some qs) d g = let z : ◌≡◌ {A = ℕ} 0 1 = cc in absurd (omega arith)
+        by_asked : (x : Option (List Point)) → points_read c asdu (table_of m) ≡ x → AddressMissing ≡ counted c.ca x → points_read c asdu (table_of m) ≡ none
+        by_asked none d g = d
+        by_asked (some qs) d g = let z : ◌≡◌ {A = ℕ} 0 1 = cc in absurd (omega arith)
 
 -- A CA that is not planned, CA 65,535 too: the first address is missing.
 pub unplanned_read_law : (m : List ℕ) (c : Command) (asdu : List ℕ) → seat_at m c.ca ≡ NotPlanned → 0 < c.count → points_read c asdu (table_of m) ≡ none
@@ -199,4 +199,4 @@ unfolding addresses_in point_in
 unplanned_read_law m c asdu e some-there =
     let k : c.count ≡ suc (c.count - 1) = omega arith in
     (λ j. points_asked (addresses_in asdu header_octets (k j)) (points_of (absent_law m c.ca e j)))
-    ∙ asked-none (three asdu header_octets) (addresses_in asdu (header_octets + address_octets) (c.count - 1)) [] refl
+    ∙ asked_none (three asdu header_octets) (addresses_in asdu (header_octets + address_octets) (c.count - 1)) [] refl

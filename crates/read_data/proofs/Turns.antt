@@ -26,17 +26,17 @@ use Rattle.read_data.specs.Reads.{asked_of, together, asked_at, requested_of, re
 -- A place found lies among those asked, whatever they hold.
 pub held_inside : (m : List ℕ) (first n ioa at : ℕ) → find_at m first n ioa ≡ Held at → at + 48 ≤ first + 48 * n
 unfolding find_at spot_at
-held_inside m first n ioa at e = by-test (ltb j n & eqb (ioa_at m first j) ioa) refl e
+held_inside m first n ioa at e = by_test (ltb j n & eqb (ioa_at m first j) ioa) refl e
   where
     j : ℕ
     j = halve (ioa_at m first) ioa 0 n n
 
-    by-test : (b : Bool) → ltb j n & eqb (ioa_at m first j) ioa ≡ b → pick b (Held (first + 48 * j)) (Missing (first + 48 * j)) ≡ Held at → at + 48 ≤ first + 48 * n
-    by-test true t f =
+    by_test : (b : Bool) → ltb j n & eqb (ioa_at m first j) ioa ≡ b → pick b (Held (first + 48 * j)) (Missing (first + 48 * j)) ≡ Held at → at + 48 ≤ first + 48 * n
+    by_test true t f =
         let p : first + 48 * j ≡ at = cc in
         let l : j < n = ltb-true _ _ (both _ _ t).0 in
         omega arith
-    by-test false t f = let z : ◌≡◌ {A = ℕ} 0 1 = cc in absurd (omega arith)
+    by_test false t f = let z : ◌≡◌ {A = ℕ} 0 1 = cc in absurd (omega arith)
 
 -- An ASDU of one point has at most 21 octets.
 pub asked_small : (m : List ℕ) (x : Spot) (k : ℕ) → Known k ≡ asked_of m x → k ≤ 21
@@ -62,35 +62,35 @@ module _ (m : List ℕ) (first h : ℕ) (asdu : List ℕ) (at n : ℕ) where
     one_more : n ≡ suc (n - 1)
     one_more = omega arith
 
-    pub asked-on : (octets k : ℕ) → Known k ≡ asked_of m (find_at m first h (three asdu at))
+    pub asked_on : (octets k : ℕ) → Known k ≡ asked_of m (find_at m first h (three asdu at))
         → together (Known octets) (asked_at m first h asdu at n) ≡ together (Known (octets + k)) (asked_at m first h asdu (at + 3) (n - 1))
     unfolding asked_at
-    asked-on octets k e =
+    asked_on octets k e =
         ap (λ (x : ℕ). together (Known octets) (asked_at m first h asdu at x)) one_more
         ∙ ap (λ (x : Asked). together (Known octets) (together x (asked_at m first h asdu (at + 3) (n - 1)))) (sym e)
         ∙ together_more octets k (asked_at m first h asdu (at + 3) (n - 1))
 
-    pub asked-missing : (octets : ℕ) → AddressMissing ≡ asked_of m (find_at m first h (three asdu at))
+    pub asked_missing : (octets : ℕ) → AddressMissing ≡ asked_of m (find_at m first h (three asdu at))
         → together (Known octets) (asked_at m first h asdu at n) ≡ AddressMissing
     unfolding asked_at
-    asked-missing octets e =
+    asked_missing octets e =
         ap (λ (x : ℕ). together (Known octets) (asked_at m first h asdu at x)) one_more
         ∙ ap (λ (x : Asked). together (Known octets) (together x (asked_at m first h asdu (at + 3) (n - 1)))) (sym e)
 
-    pub requested-on : (ca : ℕ)
+    pub requested_on : (ca : ℕ)
         → wire (requested_at m first h ca asdu at n) ≡ wire (requested_of m ca (find_at m first h (three asdu at))) ++ wire (requested_at m first h ca asdu (at + 3) (n - 1))
     unfolding requested_at
-    requested-on ca =
+    requested_on ca =
         ap (λ (x : ℕ). wire (requested_at m first h ca asdu at x)) one_more
         ∙ wire_append (requested_of m ca (find_at m first h (three asdu at))) (requested_at m first h ca asdu (at + 3) (n - 1))
 
-  pub asked-end : (octets : ℕ) → n ≤ 0 → together (Known octets) (asked_at m first h asdu at n) ≡ Known octets
+  pub asked_end : (octets : ℕ) → n ≤ 0 → together (Known octets) (asked_at m first h asdu at n) ≡ Known octets
   unfolding asked_at
-  asked-end octets e =
+  asked_end octets e =
       let z : n ≡ 0 = omega arith in
       let o : octets + 0 ≡ octets = omega arith in
       ap (λ (x : ℕ). together (Known octets) (asked_at m first h asdu at x)) z ∙ ap Known o
 
-  pub requested-end : (ca : ℕ) → n ≤ 0 → wire (requested_at m first h ca asdu at n) ≡ []
+  pub requested_end : (ca : ℕ) → n ≤ 0 → wire (requested_at m first h ca asdu at n) ≡ []
   unfolding requested_at
-  requested-end ca e = let z : n ≡ 0 = omega arith in ap (λ (x : ℕ). wire (requested_at m first h ca asdu at x)) z ∙ wire_none
+  requested_end ca e = let z : n ≡ 0 = omega arith in ap (λ (x : ℕ). wire (requested_at m first h ca asdu at x)) z ∙ wire_none

@@ -18,7 +18,7 @@ use Rattle.lookup.specs.declared.Spot.TheVariants.{Held, Missing}
 use Rattle.lookup.specs.Find.{find_at}
 use Rattle.report.specs.Single.{requested_asdu}
 use Rattle.read_data.specs.Reads.{requested_of, requested_at}
-use Rattle.read_data.proofs.Turns.{requested-on, requested-end}
+use Rattle.read_data.proofs.Turns.{requested_on, requested_end}
 
 -- a place found
 pub found_is : (m : List ℕ) (ca at : ℕ) (x : Spot) → x ≡ Held at → wire (requested_of m ca x) ≡ asdu_octets (requested_asdu ca (point_at m at))
@@ -49,15 +49,15 @@ module _ (m : List ℕ) (first h ca : ℕ) (asdu out₀ whole out : List ℕ) (f
     next_fits =
         let r : o + size (requested_at m first h ca asdu at left) ≤ length out = log_room out₀ whole out _ from o log (omega arith) in
         let e : size (requested_at m first h ca asdu at left) ≡ length next + size (requested_at m first h ca asdu (at + 3) (left - 1)) =
-        ap length (requested-on m first h asdu at left more ca) ∙ length-append next _ in
+        ap length (requested_on m first h asdu at left more ca) ∙ length-append next _ in
         omega arith
 
     -- It goes in.
-    pub next-in : (ioa r : ℕ) (out' : List ℕ) → ioa ≡ three asdu at → PutsAt o (wire (requested_of m ca (find_at m first h ioa))) out r out'
+    pub next_in : (ioa r : ℕ) (out' : List ℕ) → ioa ≡ three asdu at → PutsAt o (wire (requested_of m ca (find_at m first h ioa))) out r out'
         → Log out₀ from whole out' r (wire (requested_at m first h ca asdu (at + 3) (left - 1)))
-    next-in ioa r out' i p =
+    next_in ioa r out' i p =
         let todo : List ℕ = wire (requested_at m first h ca asdu (at + 3) (left - 1)) in
-        let l : Log out₀ from whole out o (next ++ todo) = subst (λ (x : List ℕ). Log out₀ from whole out o x) (requested-on m first h asdu at left more ca) log in
+        let l : Log out₀ from whole out o (next ++ todo) = subst (λ (x : List ℕ). Log out₀ from whole out o x) (requested_on m first h asdu at left more ca) log in
         let s : Log out₀ from whole (over out o next) (o + length next) todo = log_step out₀ whole out next todo from o l next_fits in
         let er' : r ≡ o + length next = p.0 ∙ ap (λ (x : ℕ). o + size (requested_of m ca (find_at m first h x))) i in
         let eo' : out' ≡ over out o next = p.1 ∙ ap (λ (x : ℕ). over out o (wire (requested_of m ca (find_at m first h x)))) i in
@@ -66,6 +66,6 @@ module _ (m : List ℕ) (first h ca : ℕ) (asdu out₀ whole out : List ℕ) (f
   -- All is in.
   pub all_in : left ≤ 0 → PutsAt from whole out₀ o out
   all_in none_left =
-      let l : Log out₀ from whole out o [] = subst (λ (x : List ℕ). Log out₀ from whole out o x) (requested-end m first h asdu at left ca none_left) log in
+      let l : Log out₀ from whole out o [] = subst (λ (x : List ℕ). Log out₀ from whole out o x) (requested_end m first h asdu at left ca none_left) log in
       let e = log_end out₀ whole out from o l (omega arith) in
       (let z = e.0 in omega arith, e.1)

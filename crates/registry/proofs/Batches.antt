@@ -54,12 +54,12 @@ each_nil (e ∷ es) = each_more apart_none (each_nil es)
 each_cons : (es : List Request) (q : Request) (qs : List Request) → stands_in q es ≡ false → EachApart es qs → EachApart es (q ∷ qs)
 unfolding stands_in
 each_cons [] q qs s a = each_none
-each_cons (e ∷ es) q qs s (each_more x y) = by-test (λ r. each_cons es q qs r y) (eqb e.ca q.ca & eqb e.ioa q.ioa) refl s
+each_cons (e ∷ es) q qs s (each_more x y) = by_test (λ r. each_cons es q qs r y) (eqb e.ca q.ca & eqb e.ioa q.ioa) refl s
   where
-    by-test : (stands_in q es ≡ false → EachApart es (q ∷ qs)) → (b : Bool) → (eqb e.ca q.ca & eqb e.ioa q.ioa) ≡ b
+    by_test : (stands_in q es ≡ false → EachApart es (q ∷ qs)) → (b : Bool) → (eqb e.ca q.ca & eqb e.ioa q.ioa) ≡ b
         → pick b true (stands_in q es) ≡ false → EachApart (e ∷ es) (q ∷ qs)
-    by-test ih true t s' = not_both (sym s')
-    by-test ih false t s' = each_more (apart_more t x) (ih s')
+    by_test ih true t s' = not_both (sym s')
+    by_test ih false t s' = each_more (apart_more t x) (ih s')
 
 twice_is : (b : Bool) → pick b AddressTwice Done ≡ Done → b ≡ false
 twice_is true e = not_both (ap is_done e)
@@ -70,7 +70,7 @@ pub own_tests_ready : (t : Table) (earlier : List Request) (i : ℕ) (qs : List 
     → Ready t qs × EachApart earlier qs
 unfolding own_tests batch_fault
 own_tests_ready t earlier i [] e = (ready_none, each_nil earlier)
-own_tests_ready t earlier i (q ∷ qs) e = by-test (λ r. own_tests_ready t (q ∷ earlier) (i + 1) qs r) (is_done (batch_fault t earlier q)) refl e
+own_tests_ready t earlier i (q ∷ qs) e = by_test (λ r. own_tests_ready t (q ∷ earlier) (i + 1) qs r) (is_done (batch_fault t earlier q)) refl e
   where
     split : Ready t qs × EachApart (q ∷ earlier) qs → batch_fault t earlier q ≡ Done → Ready t (q ∷ qs) × EachApart earlier (q ∷ qs)
     split (r, each_more x y) d =
@@ -78,23 +78,23 @@ own_tests_ready t earlier i (q ∷ qs) e = by-test (λ r. own_tests_ready t (q �
         let f2 = first_done _ _ f1.1 in
         (ready_more (record { own = f1.0; new = unregistered_is q _ f2.1 }) x r, each_cons earlier q qs (twice_is _ f2.0) y)
 
-    by-test : ((own_tests t (q ∷ earlier) (i + 1) qs).outcome ≡ Done → Ready t qs × EachApart (q ∷ earlier) qs)
+    by_test : ((own_tests t (q ∷ earlier) (i + 1) qs).outcome ≡ Done → Ready t qs × EachApart (q ∷ earlier) qs)
         → (b : Bool) → is_done (batch_fault t earlier q) ≡ b
         → (pick b (own_tests t (q ∷ earlier) (i + 1) qs) (record { outcome = batch_fault t earlier q; place = i })).outcome ≡ Done
         → Ready t (q ∷ qs) × EachApart earlier (q ∷ qs)
-    by-test ih true d e' = split (ih e') (done_is _ d)
-    by-test ih false d e' = not_both (sym d ∙ ap is_done e')
+    by_test ih true d e' = split (ih e') (done_is _ d)
+    by_test ih false d e' = not_both (sym d ∙ ap is_done e')
 
 -- ---- taking in the first keeps the others ready
 
 -- a request passes as it did, where the points of its own station did not come to have its address
 passes_like : (t : Table) (q r : Request) (s : Station) → station_of q.ca t.stations ≡ some s → Apart q r → Passes t r → Passes (with_request t q) r
 unfolding added changed is_planned is_registered ◌&◌ point_of
-passes_like t q r s e x p = by-test (eqb q.ca r.ca) refl x
+passes_like t q r s e x p = by_test (eqb q.ca r.ca) refl x
   where
-    by-test : (b : Bool) → eqb q.ca r.ca ≡ b → (b & eqb q.ioa r.ioa) ≡ false
+    by_test : (b : Bool) → eqb q.ca r.ca ≡ b → (b & eqb q.ioa r.ioa) ≡ false
         → Passes (with_stations (in_station q.ca (with_points (insert_in (point_of q))) t.stations) t) r
-    by-test true b x' =
+    by_test true b x' =
         let c : q.ca ≡ r.ca = eqb-true _ _ b in
         let old : station_of r.ca t.stations ≡ some s = rw (← c) e in
         let now : station_of r.ca (in_station q.ca (with_points (insert_in (point_of q))) t.stations) ≡ some (with_points (insert_in (point_of q)) s) =
@@ -104,7 +104,7 @@ passes_like t q r s e x p = by-test (eqb q.ca r.ca) refl x
           own = ap (λ (o : Option Station). own_fault (is_planned o) r) now ∙ sym (ap (λ (o : Option Station). own_fault (is_planned o) r) old) ∙ p.own;
           new = ap (is_registered r.ioa) now ∙ known_insert (point_of q) r.ioa s.points ∙ simp (x', was);
         }
-    by-test false b x' =
+    by_test false b x' =
         let o = other_station q.ca r.ca (insert_in (point_of q)) t.stations (eqb-false _ _ b) in
         record {
           own = ap (λ (o : Option Station). own_fault (is_planned o) r) o ∙ p.own;
@@ -152,7 +152,7 @@ pub room_tests_good : (t : Table) (i : ℕ) (qs : List Request) → Good t → R
 unfolding AllTwelve room_tests requests_of
 room_tests_good t i [] g r w e = (g, λ ca. omega arith)
 room_tests_good t i (q ∷ qs) g (ready_more p x y) w e =
-    by-test (λ d f.
+    by_test (λ d f.
     let a = passes_accepted t q w.0 p d in
     let ih = room_tests_good (with_request t q) (i + 1) qs (accepted_good t q g a) (ready_after t q a.station qs a.found x y) w.1 f in
     (ih.0, λ ca. let h = ih.1 ca in let k = held_added t q ca a.station a.found in omega arith))
@@ -161,12 +161,12 @@ room_tests_good t i (q ∷ qs) g (ready_more p x y) w e =
     Goal : Effect → Type 0
     Goal z = Good z.after × ((ca : ℕ) → held_at ca z.after ≡ held_at ca t + (pick (eqb q.ca ca) 1 0 + requests_of ca qs))
 
-    by-test : (room_fault t (station_of q.ca t.stations) ≡ Done → (room_tests (with_request t q) (i + 1) qs).outcome ≡ Done → Goal (room_tests (with_request t q) (i + 1) qs))
+    by_test : (room_fault t (station_of q.ca t.stations) ≡ Done → (room_tests (with_request t q) (i + 1) qs).outcome ≡ Done → Goal (room_tests (with_request t q) (i + 1) qs))
         → (b : Bool) → is_done (room_fault t (station_of q.ca t.stations)) ≡ b
         → (pick b (room_tests (with_request t q) (i + 1) qs) (record { outcome = room_fault t (station_of q.ca t.stations); place = i; after = t })).outcome ≡ Done
         → Goal (pick b (room_tests (with_request t q) (i + 1) qs) (record { outcome = room_fault t (station_of q.ca t.stations); place = i; after = t }))
-    by-test ih true d e' = ih (done_is _ d) e'
-    by-test ih false d e' = not_both (sym d ∙ ap is_done e')
+    by_test ih true d e' = ih (done_is _ d) e'
+    by_test ih false d e' = not_both (sym d ∙ ap is_done e')
 
 -- ---- the settings
 
@@ -174,9 +174,9 @@ room_tests_good t i (q ∷ qs) g (ready_more p x y) w e =
 pub room_settings : (t : Table) (i : ℕ) (qs : List Request) → (room_tests t i qs).after.settings ≡ t.settings
 unfolding room_tests added changed
 room_settings t i [] = refl
-room_settings t i (q ∷ qs) = by-test (room_settings (with_request t q) (i + 1) qs) (is_done (room_fault t (station_of q.ca t.stations)))
+room_settings t i (q ∷ qs) = by_test (room_settings (with_request t q) (i + 1) qs) (is_done (room_fault t (station_of q.ca t.stations)))
   where
-    by-test : (room_tests (with_request t q) (i + 1) qs).after.settings ≡ t.settings
+    by_test : (room_tests (with_request t q) (i + 1) qs).after.settings ≡ t.settings
         → (b : Bool) → (pick b (room_tests (with_request t q) (i + 1) qs) (refused (room_fault t (station_of q.ca t.stations)) i t)).after.settings ≡ t.settings
-    by-test ih true = ih
-    by-test ih false = refl
+    by_test ih true = ih
+    by_test ih false = refl

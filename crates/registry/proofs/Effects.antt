@@ -15,18 +15,18 @@ use Rattle.registry.specs.Effect.{Effect, next, holding, reply_from, memory_from
 -- Every number but 0 leaves the memory as it was.
 pub refusal_keeps_memory : (f : Table → Effect) (m : List ℕ) → is_done (reply_on f m).outcome ≡ false → memory_on f m ≡ m
 unfolding reply_from memory_from
-refusal_keeps_memory f m e = of-parsed (parse m) e
+refusal_keeps_memory f m e = of_parsed (parse m) e
   where
-    of-parsed : (o : Option Table) → is_done (reply_from f o).outcome ≡ false → memory_from f m o ≡ m
-    of-parsed none e' = refl
-    of-parsed (some t) e' = simp e'
+    of_parsed : (o : Option Table) → is_done (reply_from f o).outcome ≡ false → memory_from f m o ≡ m
+    of_parsed none e' = refl
+    of_parsed (some t) e' = simp e'
 
 -- What a call leaves is read back as the table after it.
 pub parse_after : (f : Table → Effect) (m : List ℕ) (t : Table) → parse m ≡ some t → good (next f t) ≡ true → parse (memory_on f m) ≡ some (next f t)
 unfolding memory_from
-parse_after f m t p g = ap (λ (o : Option Table). parse (memory_from f m o)) p ∙ by-test (is_done (f t).outcome) refl g
+parse_after f m t p g = ap (λ (o : Option Table). parse (memory_from f m o)) p ∙ by_test (is_done (f t).outcome) refl g
   where
-    by-test : (b : Bool) → is_done (f t).outcome ≡ b → good (pick b (f t).after t) ≡ true
+    by_test : (b : Bool) → is_done (f t).outcome ≡ b → good (pick b (f t).after t) ≡ true
         → parse (pick b (holding m t (f t).after) m) ≡ some (pick b (f t).after t)
-    by-test true e g' = parse_complete (f t).after (drop (length (image t)) m) g'
-    by-test false e g' = p
+    by_test true e g' = parse_complete (f t).after (drop (length (image t)) m) g'
+    by_test false e g' = p

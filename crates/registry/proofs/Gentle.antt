@@ -74,49 +74,49 @@ pub record Gentle (f : List Point → List Point) : Type 0 where
   pub still_rising : (ps : List Point) → rising 0 ps ≡ true → rising 0 (f ps) ≡ true
 
 module _ (f : List Point → List Point) (w : Gentle f) where
-  holding-same : (s : Station) → holding_of (with_points f s) ≡ holding_of s
-  holding-same s = λ j. record { ca = s.ca; reservation = s.reservation; ceiling = s.ceiling; held = w.same_length s.points j }
+  holding_same : (s : Station) → holding_of (with_points f s) ≡ holding_of s
+  holding_same s = λ j. record { ca = s.ca; reservation = s.reservation; ceiling = s.ceiling; held = w.same_length s.points j }
 
-  holdings-in : (ca : ℕ) (ss : List Station) → map holding_of (in_station ca (with_points f) ss) ≡ map holding_of ss
+  holdings_in : (ca : ℕ) (ss : List Station) → map holding_of (in_station ca (with_points f) ss) ≡ map holding_of ss
   unfolding in_station
-  holdings-in ca [] = refl
-  holdings-in ca (s ∷ ss) = by-test (holdings-in ca ss) (eqb s.ca ca)
+  holdings_in ca [] = refl
+  holdings_in ca (s ∷ ss) = by_test (holdings_in ca ss) (eqb s.ca ca)
     where
-      by-test : map holding_of (in_station ca (with_points f) ss) ≡ map holding_of ss → (b : Bool)
+      by_test : map holding_of (in_station ca (with_points f) ss) ≡ map holding_of ss → (b : Bool)
           → map holding_of (pick b (with_points f s ∷ ss) (s ∷ in_station ca (with_points f) ss)) ≡ holding_of s ∷ map holding_of ss
-      by-test ih true = ap (λ (h : Holding). h ∷ map holding_of ss) (holding-same s)
-      by-test ih false = ap (λ (l : List Holding). holding_of s ∷ l) ih
+      by_test ih true = ap (λ (h : Holding). h ∷ map holding_of ss) (holding_same s)
+      by_test ih false = ap (λ (l : List Holding). holding_of s ∷ l) ih
 
-  rises-in : (ca : ℕ) (ss : List Station) → all_rising ss ≡ true → all_rising (in_station ca (with_points f) ss) ≡ true
+  rises_in : (ca : ℕ) (ss : List Station) → all_rising ss ≡ true → all_rising (in_station ca (with_points f) ss) ≡ true
   unfolding in_station all_rising
-  rises-in ca [] r = refl
-  rises-in ca (s ∷ ss) r = by-test (rises-in ca ss (both _ _ r).1) (eqb s.ca ca)
+  rises_in ca [] r = refl
+  rises_in ca (s ∷ ss) r = by_test (rises_in ca ss (both _ _ r).1) (eqb s.ca ca)
     where
-      by-test : all_rising (in_station ca (with_points f) ss) ≡ true → (b : Bool)
+      by_test : all_rising (in_station ca (with_points f) ss) ≡ true → (b : Bool)
           → all_rising (pick b (with_points f s ∷ ss) (s ∷ in_station ca (with_points f) ss)) ≡ true
-      by-test ih true = join (w.still_rising s.points (both _ _ r).0) (both _ _ r).1
-      by-test ih false = join (both _ _ r).0 ih
+      by_test ih true = join (w.still_rising s.points (both _ _ r).0) (both _ _ r).1
+      by_test ih false = join (both _ _ r).0 ih
 
-  holdings-all : (ss : List Station) → map holding_of (map (with_points f) ss) ≡ map holding_of ss
-  holdings-all [] = refl
-  holdings-all (s ∷ ss) = ap₂ (λ (h : Holding) (l : List Holding). h ∷ l) (holding-same s) (holdings-all ss)
+  holdings_all : (ss : List Station) → map holding_of (map (with_points f) ss) ≡ map holding_of ss
+  holdings_all [] = refl
+  holdings_all (s ∷ ss) = ap₂ (λ (h : Holding) (l : List Holding). h ∷ l) (holding_same s) (holdings_all ss)
 
-  rises-all : (ss : List Station) → all_rising ss ≡ true → all_rising (map (with_points f) ss) ≡ true
+  rises_all : (ss : List Station) → all_rising ss ≡ true → all_rising (map (with_points f) ss) ≡ true
   unfolding all_rising
-  rises-all [] r = refl
-  rises-all (s ∷ ss) r = join (w.still_rising s.points (both _ _ r).0) (rises-all ss (both _ _ r).1)
+  rises_all [] r = refl
+  rises_all (s ∷ ss) r = join (w.still_rising s.points (both _ _ r).0) (rises_all ss (both _ _ r).1)
 
   -- At one station.
-  pub gentle-here : (t : Table) (ca : ℕ) → Good t → Good (changed t ca f) × (map holding_of (changed t ca f).stations ≡ map holding_of t.stations)
+  pub gentle_here : (t : Table) (ca : ℕ) → Good t → Good (changed t ca f) × (map holding_of (changed t ca f).stations ≡ map holding_of t.stations)
   unfolding changed
-  gentle-here t ca g =
-      (good_like t (in_station ca (with_points f) t.stations) g (holdings-in ca t.stations) (rises-in ca t.stations g.rises), holdings-in ca t.stations)
+  gentle_here t ca g =
+      (good_like t (in_station ca (with_points f) t.stations) g (holdings_in ca t.stations) (rises_in ca t.stations g.rises), holdings_in ca t.stations)
 
   -- At every station.
-  pub gentle-everywhere : (t : Table) → Good t
+  pub gentle_everywhere : (t : Table) → Good t
       → Good (with_stations (map (with_points f) t.stations) t) × (map holding_of (map (with_points f) t.stations) ≡ map holding_of t.stations)
-  gentle-everywhere t g =
-      (good_like t (map (with_points f) t.stations) g (holdings-all t.stations) (rises-all t.stations g.rises), holdings-all t.stations)
+  gentle_everywhere t g =
+      (good_like t (map (with_points f) t.stations) g (holdings_all t.stations) (rises_all t.stations g.rises), holdings_all t.stations)
 
 -- ---- a change point by point
 

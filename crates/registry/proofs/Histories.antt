@@ -17,7 +17,7 @@ use Rattle.limits.specs.declared.share.Admission.TheVariants.{Admitted}
 use Rattle.limits.specs.declared.outcome.Outcome.TheVariants.{Done}
 use Rattle.limits.proofs.Tests.{both}
 use Rattle.limits.proofs.Outcomes.{not_both, first_done, done_is}
-use Rattle.limits.proofs.Shares.{below-reservation-admitted}
+use Rattle.limits.proofs.Shares.{below_reservation_admitted}
 use Rattle.model.specs.declared.Point.{Point}
 use Rattle.model.specs.declared.Request.{Request}
 use Rattle.table.specs.Table.{Station, Table, held, share_of, numbers_ok, plan_ok}
@@ -65,7 +65,7 @@ below_reservation_has_room t ca s g e h =
     let split : map share_of t.stations ≡ B ++ (share_of s ∷ A) = ap (map share_of) w.split ∙ shares_split w.before s w.after in
     let sound : Sound k (B ++ (share_of s ∷ A)) = subst (Sound k) split (good_sound t g) in
     let n = station_numbers t ca s g e in
-    let a : admission_in k (B ++ (share_of s ∷ A)) (share_of s) ≡ Admitted = below-reservation-admitted k B (share_of s) A sound n.reservation_within h in
+    let a : admission_in k (B ++ (share_of s ∷ A)) (share_of s) ≡ Admitted = below_reservation_admitted k B (share_of s) A sound n.reservation_within h in
     let a' : admission_in k (map share_of t.stations) (share_of s) ≡ Admitted = ap (λ (l : List Share). admission_in k l (share_of s)) split ∙ a in
     ap (room_fault t) e ∙ ap admission_outcome a'
 
@@ -84,12 +84,12 @@ granted_alone t q s g p e h =
 lines_in : (ca : ℕ) (f : List Point → List Point) (ss : List Station) → map line_of (in_station ca (with_points f) ss) ≡ map line_of ss
 unfolding in_station
 lines_in ca f [] = refl
-lines_in ca f (s ∷ ss) = by-test (lines_in ca f ss) (eqb s.ca ca)
+lines_in ca f (s ∷ ss) = by_test (lines_in ca f ss) (eqb s.ca ca)
   where
-    by-test : map line_of (in_station ca (with_points f) ss) ≡ map line_of ss → (b : Bool)
+    by_test : map line_of (in_station ca (with_points f) ss) ≡ map line_of ss → (b : Bool)
         → map line_of (pick b (with_points f s ∷ ss) (s ∷ in_station ca (with_points f) ss)) ≡ line_of s ∷ map line_of ss
-    by-test ih true = refl
-    by-test ih false = ap (λ (l : List Line). line_of s ∷ l) ih
+    by_test ih true = refl
+    by_test ih false = ap (λ (l : List Line). line_of s ∷ l) ih
 
 lines_emptied : (ss : List Station) → map line_of (map (with_points (λ (ps : List Point). [])) ss) ≡ map line_of ss
 lines_emptied [] = refl
@@ -112,12 +112,12 @@ held_from ca (h ∷ hs) = pick (eqb h.ca ca) h.held (held_from ca hs)
 held_is : (ca : ℕ) (ss : List Station) → held_from ca (map holding_of ss) ≡ held_by (station_of ca ss)
 unfolding held_from held_by station_of
 held_is ca [] = refl
-held_is ca (s ∷ ss) = by-test (held_is ca ss) (eqb s.ca ca)
+held_is ca (s ∷ ss) = by_test (held_is ca ss) (eqb s.ca ca)
   where
-    by-test : held_from ca (map holding_of ss) ≡ held_by (station_of ca ss) → (b : Bool)
+    by_test : held_from ca (map holding_of ss) ≡ held_by (station_of ca ss) → (b : Bool)
         → pick b (length s.points) (held_from ca (map holding_of ss)) ≡ held_by (pick b (some s) (station_of ca ss))
-    by-test ih true = refl
-    by-test ih false = ih
+    by_test ih true = refl
+    by_test ih false = ih
 
 -- The same plan and K.
 pub record SamePlan (t u : Table) : Type 0 where
@@ -145,12 +145,12 @@ added_plan t q = changed_plan t q.ca _
 room_tests_plan : (t : Table) (i : ℕ) (qs : List Request) → SamePlan t (room_tests t i qs).after
 unfolding room_tests
 room_tests_plan t i [] = same_plan t
-room_tests_plan t i (q ∷ qs) = by-test (room_tests_plan (with_request t q) (i + 1) qs) (is_done (room_fault t (station_of q.ca t.stations)))
+room_tests_plan t i (q ∷ qs) = by_test (room_tests_plan (with_request t q) (i + 1) qs) (is_done (room_fault t (station_of q.ca t.stations)))
   where
-    by-test : SamePlan (with_request t q) (room_tests (with_request t q) (i + 1) qs).after → (b : Bool)
+    by_test : SamePlan (with_request t q) (room_tests (with_request t q) (i + 1) qs).after → (b : Bool)
         → SamePlan t (pick b (room_tests (with_request t q) (i + 1) qs) (record { outcome = room_fault t (station_of q.ca t.stations); place = i; after = t })).after
-    by-test ih true = same_plan_trans (added_plan t q) ih
-    by-test ih false = same_plan t
+    by_test ih true = same_plan_trans (added_plan t q) ih
+    by_test ih false = same_plan t
 
 -- ---- one call
 
@@ -163,8 +163,8 @@ pub record Keeps (t : Table) (c : Call) : Type 0 where
 
 -- a call that was refused keeps everything
 module _ (t : Table) (g : Good t) where
-  keeps-quiet : (f : Table → Effect) (w : Quiet f) → Keeps t (command f w)
-  keeps-quiet f w =
+  keeps_quiet : (f : Table → Effect) (w : Quiet f) → Keeps t (command f w)
+  keeps_quiet f w =
       let e = w.keeps_holdings t (is_good t g) in
       record {
         is_good = good_is _ (w.keeps_good t (is_good t g));
@@ -177,65 +177,65 @@ module _ (t : Table) (g : Good t) where
             omega arith;
       }
 
-  keeps-all-out : Keeps t unregister_all
+  keeps_all_out : Keeps t unregister_all
   unfolding unregistering_all emptied reply_from
-  keeps-all-out =
+  keeps_all_out =
       record {
         is_good = good_emptied t g;
         plan = record { capacity = refl; lines = lines_emptied t.stations };
         tally = λ ca x d h. let k = held_emptied t.stations ca in omega arith;
       }
 
-  registered-station : (ca ioa : ℕ) → is_registered ioa (station_of ca t.stations) ≡ true
+  registered_station : (ca ioa : ℕ) → is_registered ioa (station_of ca t.stations) ≡ true
       → (s : Station) × (station_of ca t.stations ≡ some s) × (known ioa s.points ≡ true)
   unfolding is_registered
-  registered-station ca ioa e = of-found (station_of ca t.stations) refl e
+  registered_station ca ioa e = of_found (station_of ca t.stations) refl e
     where
-      of-found : (o : Option Station) → station_of ca t.stations ≡ o → is_registered ioa o ≡ true
+      of_found : (o : Option Station) → station_of ca t.stations ≡ o → is_registered ioa o ≡ true
           → (s : Station) × (station_of ca t.stations ≡ some s) × (known ioa s.points ≡ true)
-      of-found none p e' = not_both e'
-      of-found (some s) p e' = (s, p, e')
+      of_found none p e' = not_both e'
+      of_found (some s) p e' = (s, p, e')
 
-  keeps-out : (ca ioa : ℕ) → Keeps t (unregister ca ioa)
+  keeps_out : (ca ioa : ℕ) → Keeps t (unregister ca ioa)
   unfolding unregistering reply_from ◌&◌
-  keeps-out ca ioa = by-test (is_registered ioa (station_of ca t.stations)) refl
+  keeps_out ca ioa = by_test (is_registered ioa (station_of ca t.stations)) refl
     where
-      by-test : (b : Bool) → is_registered ioa (station_of ca t.stations) ≡ b → Keeps t (unregister ca ioa)
-      by-test true e =
-          let s = registered-station ca ioa e in
+      by_test : (b : Bool) → is_registered ioa (station_of ca t.stations) ≡ b → Keeps t (unregister ca ioa)
+      by_test true e =
+          let s = registered_station ca ioa e in
           record {
             is_good = simp e (good_removed t ca ioa s.0 g (station_found _ _ _ s.1) s.2);
             plan = simp e (removed_plan t ca ioa);
             tally = λ other x d h. let k = held_removed t ca ioa other s.0 s.1 s.2 in simp e (omega arith);
           }
-      by-test false e = record { is_good = simp e g; plan = simp e (same_plan t); tally = λ other x d h. simp e (omega arith) }
+      by_test false e = record { is_good = simp e g; plan = simp e (same_plan t); tally = λ other x d h. simp e (omega arith) }
 
-  request-accepted : (q : Request) → Twelve q → request_outcome t q (station_of q.ca t.stations) ≡ Done → Accepted t q
+  request_accepted : (q : Request) → Twelve q → request_outcome t q (station_of q.ca t.stations) ≡ Done → Accepted t q
   unfolding request_outcome
-  request-accepted q w e =
+  request_accepted q w e =
       let f1 = first_done _ _ e in
       let f2 = first_done _ _ f1.1 in
       passes_accepted t q w (record { own = f1.0; new = unregistered_is q _ f2.0 }) f2.1
 
-  keeps-in : (q : Request) (w : Twelve q) → Keeps t (register q w)
+  keeps_in : (q : Request) (w : Twelve q) → Keeps t (register q w)
   unfolding registering reply_from ◌&◌
-  keeps-in q w = by-test (is_done (request_outcome t q (station_of q.ca t.stations))) refl
+  keeps_in q w = by_test (is_done (request_outcome t q (station_of q.ca t.stations))) refl
     where
-      by-test : (b : Bool) → is_done (request_outcome t q (station_of q.ca t.stations)) ≡ b → Keeps t (register q w)
-      by-test true e =
-          let a = request-accepted q w (done_is _ e) in
+      by_test : (b : Bool) → is_done (request_outcome t q (station_of q.ca t.stations)) ≡ b → Keeps t (register q w)
+      by_test true e =
+          let a = request_accepted q w (done_is _ e) in
           record {
             is_good = simp e (accepted_good t q g a);
             plan = simp e (added_plan t q);
             tally = λ other x d h. let k = held_added t q other a.station a.found in simp e (omega arith);
           }
-      by-test false e = record { is_good = simp e g; plan = simp e (same_plan t); tally = λ other x d h. simp e (omega arith) }
+      by_test false e = record { is_good = simp e g; plan = simp e (same_plan t); tally = λ other x d h. simp e (omega arith) }
 
   -- what a batch that was done says
-  batch-done : (qs : List Request) → AllTwelve qs → (registering_all qs t).outcome ≡ Done
+  batch_done : (qs : List Request) → AllTwelve qs → (registering_all qs t).outcome ≡ Done
       → Good (registering_all qs t).after × SamePlan t (registering_all qs t).after × ((ca : ℕ) → held_at ca (registering_all qs t).after ≡ held_at ca t + requests_of ca qs)
   unfolding registering_all
-  batch-done qs w e = by-test (is_done (own_tests t [] 0 qs).outcome) refl e
+  batch_done qs w e = by_test (is_done (own_tests t [] 0 qs).outcome) refl e
     where
       Goal : Effect → Type 0
       Goal z = Good z.after × SamePlan t z.after × ((ca : ℕ) → held_at ca z.after ≡ held_at ca t + requests_of ca qs)
@@ -243,34 +243,34 @@ module _ (t : Table) (g : Good t) where
       refusal : Effect
       refusal = record { outcome = (own_tests t [] 0 qs).outcome; place = (own_tests t [] 0 qs).place; after = t }
 
-      by-test : (b : Bool) → is_done (own_tests t [] 0 qs).outcome ≡ b → (pick b (room_tests t 0 qs) refusal).outcome ≡ Done → Goal (pick b (room_tests t 0 qs) refusal)
-      by-test true d e' =
+      by_test : (b : Bool) → is_done (own_tests t [] 0 qs).outcome ≡ b → (pick b (room_tests t 0 qs) refusal).outcome ≡ Done → Goal (pick b (room_tests t 0 qs) refusal)
+      by_test true d e' =
           let r = own_tests_ready t [] 0 qs (done_is _ d) in
           let z = room_tests_good t 0 qs g r.0 w e' in
           (z.0, room_tests_plan t 0 qs, z.1)
-      by-test false d e' = not_both (sym d ∙ ap is_done e')
+      by_test false d e' = not_both (sym d ∙ ap is_done e')
 
-  keeps-batch : (qs : List Request) (w : AllTwelve qs) → Keeps t (register_all qs w)
+  keeps_batch : (qs : List Request) (w : AllTwelve qs) → Keeps t (register_all qs w)
   unfolding reply_from
-  keeps-batch qs w = by-test (is_done (registering_all qs t).outcome) refl
+  keeps_batch qs w = by_test (is_done (registering_all qs t).outcome) refl
     where
-      by-test : (b : Bool) → is_done (registering_all qs t).outcome ≡ b → Keeps t (register_all qs w)
-      by-test true e =
-          let z = batch-done qs w (done_is _ e) in
+      by_test : (b : Bool) → is_done (registering_all qs t).outcome ≡ b → Keeps t (register_all qs w)
+      by_test true e =
+          let z = batch_done qs w (done_is _ e) in
           record {
             is_good = simp e z.0;
             plan = simp e z.1;
             tally = λ other x d h. let k = z.2 other in simp e (omega arith);
           }
-      by-test false e = record { is_good = simp e g; plan = simp e (same_plan t); tally = λ other x d h. simp e (omega arith) }
+      by_test false e = record { is_good = simp e g; plan = simp e (same_plan t); tally = λ other x d h. simp e (omega arith) }
 
   -- Every call keeps the table good, the plan and K, and the tallies.
   pub keeps : (c : Call) → Keeps t c
-  keeps (register q w) = keeps-in q w
-  keeps (register_all qs w) = keeps-batch qs w
-  keeps (unregister ca ioa) = keeps-out ca ioa
-  keeps unregister_all = keeps-all-out
-  keeps (command f w) = keeps-quiet f w
+  keeps (register q w) = keeps_in q w
+  keeps (register_all qs w) = keeps_batch qs w
+  keeps (unregister ca ioa) = keeps_out ca ioa
+  keeps unregister_all = keeps_all_out
+  keeps (command f w) = keeps_quiet f w
 
 -- ---- any calls
 

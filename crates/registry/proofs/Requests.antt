@@ -48,11 +48,11 @@ admitted_is admission.CeilingReached e = not_both (ap is_done e)
 admitted_is NoRoom e = not_both (ap is_done e)
 
 pub unregistered_is : (q : Request) (o : Option Station) → registered_fault q o ≡ Done → is_registered q.ioa o ≡ false
-unregistered_is q o e = by-test (is_registered q.ioa o) e
+unregistered_is q o e = by_test (is_registered q.ioa o) e
   where
-    by-test : (b : Bool) → pick b AlreadyRegistered Done ≡ Done → b ≡ false
-    by-test true e' = not_both (ap is_done e')
-    by-test false e' = refl
+    by_test : (b : Bool) → pick b AlreadyRegistered Done ≡ Done → b ≡ false
+    by_test true e' = not_both (ap is_done e')
+    by_test false e' = refl
 
 -- ---- one point more
 
@@ -85,37 +85,37 @@ held_here t ca other s e b = let q : ca ≡ other = eqb-true _ _ b in rw (← q)
 pub held_added : (t : Table) (q : Request) (other : ℕ) (s : Station) → station_of q.ca t.stations ≡ some s
     → held_at other (with_request t q) ≡ held_at other t + pick (eqb q.ca other) 1 0
 unfolding added
-held_added t q other s e = by-test (eqb q.ca other) refl
+held_added t q other s e = by_test (eqb q.ca other) refl
   where
-    by-test : (b : Bool) → eqb q.ca other ≡ b → held_at other (changed t q.ca (insert_in (point_of q))) ≡ held_at other t + pick b 1 0
-    by-test true b =
+    by_test : (b : Bool) → eqb q.ca other ≡ b → held_at other (changed t q.ca (insert_in (point_of q))) ≡ held_at other t + pick b 1 0
+    by_test true b =
         let h = held_changed t q.ca other (insert_in (point_of q)) s e true b in
         let l = insert_length (point_of q) s.points in
         let k = held_here t q.ca other s e b in
         omega arith
-    by-test false b = let h = held_changed t q.ca other (insert_in (point_of q)) s e false b in omega arith
+    by_test false b = let h = held_changed t q.ca other (insert_in (point_of q)) s e false b in omega arith
 
 -- One point less at its station, and none elsewhere.
 pub held_removed : (t : Table) (ca ioa other : ℕ) (s : Station) → station_of ca t.stations ≡ some s → known ioa s.points ≡ true
     → held_at other (removed t ca ioa) + pick (eqb ca other) 1 0 ≡ held_at other t
 unfolding removed
-held_removed t ca ioa other s e n = by-test (eqb ca other) refl
+held_removed t ca ioa other s e n = by_test (eqb ca other) refl
   where
-    by-test : (b : Bool) → eqb ca other ≡ b → held_at other (changed t ca (remove_in ioa)) + pick b 1 0 ≡ held_at other t
-    by-test true b =
+    by_test : (b : Bool) → eqb ca other ≡ b → held_at other (changed t ca (remove_in ioa)) + pick b 1 0 ≡ held_at other t
+    by_test true b =
         let h = held_changed t ca other (remove_in ioa) s e true b in
         let l = remove_length ioa s.points n in
         let k = held_here t ca other s e b in
         omega arith
-    by-test false b = let h = held_changed t ca other (remove_in ioa) s e false b in omega arith
+    by_test false b = let h = held_changed t ca other (remove_in ioa) s e false b in omega arith
 
 -- Nothing held anywhere after the removal of all.
 pub held_emptied : (ss : List Station) (ca : ℕ) → held_by (station_of ca (map (with_points (λ (ps : List Point). [])) ss)) ≡ 0
 unfolding held_by station_of
 held_emptied [] ca = refl
-held_emptied (s ∷ ss) ca = by-test (held_emptied ss ca) (eqb s.ca ca) refl
+held_emptied (s ∷ ss) ca = by_test (held_emptied ss ca) (eqb s.ca ca) refl
   where
-    by-test : held_by (station_of ca (map (with_points (λ (ps : List Point). [])) ss)) ≡ 0 → (b : Bool) → eqb s.ca ca ≡ b
+    by_test : held_by (station_of ca (map (with_points (λ (ps : List Point). [])) ss)) ≡ 0 → (b : Bool) → eqb s.ca ca ≡ b
         → held_by (pick b (some (with_points (λ (ps : List Point). []) s)) (station_of ca (map (with_points (λ (ps : List Point). [])) ss))) ≡ 0
-    by-test ih true t = refl
-    by-test ih false t = ih
+    by_test ih true t = refl
+    by_test ih false t = ih

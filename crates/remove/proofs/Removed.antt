@@ -41,23 +41,23 @@ pub record Parted (ioa : ℕ) (ps : List Point) : Type 0 where
 known_from : (ioa low : ℕ) (ps : List Point) → rising low ps ≡ true → known ioa ps ≡ true → low ≤ ioa
 unfolding rising known
 known_from ioa low [] r k = let z : ◌≡◌ {A = ℕ} 0 1 = cc in absurd (omega arith)
-known_from ioa low (q ∷ qs) r k = by-test (λ e. known_from ioa (q.ioa + 1) qs (both _ _ (both _ _ r).1).1 e) (eqb q.ioa ioa) refl k
+known_from ioa low (q ∷ qs) r k = by_test (λ e. known_from ioa (q.ioa + 1) qs (both _ _ (both _ _ r).1).1 e) (eqb q.ioa ioa) refl k
   where
-    by-test : (known ioa qs ≡ true → q.ioa + 1 ≤ ioa) → (b : Bool) → eqb q.ioa ioa ≡ b → pick b true (known ioa qs) ≡ true → low ≤ ioa
-    by-test ih true t e = let l : low ≤ q.ioa = leb-true _ _ (both _ _ r).0 in let q' : q.ioa ≡ ioa = eqb-true _ _ t in omega arith
-    by-test ih false t e = let l : low ≤ q.ioa = leb-true _ _ (both _ _ r).0 in let h = ih e in omega arith
+    by_test : (known ioa qs ≡ true → q.ioa + 1 ≤ ioa) → (b : Bool) → eqb q.ioa ioa ≡ b → pick b true (known ioa qs) ≡ true → low ≤ ioa
+    by_test ih true t e = let l : low ≤ q.ioa = leb-true _ _ (both _ _ r).0 in let q' : q.ioa ≡ ioa = eqb-true _ _ t in omega arith
+    by_test ih false t e = let l : low ≤ q.ioa = leb-true _ _ (both _ _ r).0 in let h = ih e in omega arith
 
 pub parted : (ioa low : ℕ) (ps : List Point) → rising low ps ≡ true → known ioa ps ≡ true → Parted ioa ps
 unfolding rising known seek_in remove_in
 parted ioa low [] r k = let z : ◌≡◌ {A = ℕ} 0 1 = cc in absurd (omega arith)
-parted ioa low (q ∷ qs) r k = by-test (λ e. parted ioa (q.ioa + 1) qs (both _ _ (both _ _ r).1).1 e) (eqb q.ioa ioa) refl k
+parted ioa low (q ∷ qs) r k = by_test (λ e. parted ioa (q.ioa + 1) qs (both _ _ (both _ _ r).1).1 e) (eqb q.ioa ioa) refl k
   where
-    by-test : (known ioa qs ≡ true → Parted ioa qs) → (b : Bool) → eqb q.ioa ioa ≡ b → pick b true (known ioa qs) ≡ true → Parted ioa (q ∷ qs)
-    by-test ih true t e =
+    by_test : (known ioa qs ≡ true → Parted ioa qs) → (b : Bool) → eqb q.ioa ioa ≡ b → pick b true (known ioa qs) ≡ true → Parted ioa (q ∷ qs)
+    by_test ih true t e =
         let q' : q.ioa ≡ ioa = eqb-true _ _ t in
         let l : ioa ≤ q.ioa = omega arith in
         record { below = []; point = q; above = qs; split = refl; is_ioa = q'; sought = simp (le-leb _ _ l); left = simp t }
-    by-test ih false t e =
+    by_test ih false t e =
         let p = ih e in
         let l : q.ioa + 1 ≤ ioa = known_from ioa (q.ioa + 1) qs (both _ _ (both _ _ r).1).1 e in
         let l' : q.ioa < ioa = omega arith in
@@ -74,36 +74,36 @@ parted ioa low (q ∷ qs) r k = by-test (λ e. parted ioa (q.ioa + 1) qs (both _
 -- The removed point is not known any more, and the others are as they were.
 pub known_remove : (ioa other low : ℕ) (ps : List Point) → rising low ps ≡ true → known other (remove_in ioa ps) ≡ pick (eqb ioa other) false (known other ps)
 unfolding rising known remove_in
-known_remove ioa other low [] r = by-test (eqb ioa other)
+known_remove ioa other low [] r = by_test (eqb ioa other)
   where
-    by-test : (b : Bool) → false ≡ pick b false false
-    by-test true = refl
-    by-test false = refl
+    by_test : (b : Bool) → false ≡ pick b false false
+    by_test true = refl
+    by_test false = refl
 known_remove ioa other low (q ∷ qs) r =
-    by-test (known_remove ioa other (q.ioa + 1) qs (both _ _ (both _ _ r).1).1)
+    by_test (known_remove ioa other (q.ioa + 1) qs (both _ _ (both _ _ r).1).1)
     (known other qs) refl (eqb q.ioa ioa) refl (eqb ioa other) refl (eqb q.ioa other) refl
   where
-    by-test : known other (remove_in ioa qs) ≡ pick (eqb ioa other) false (known other qs)
+    by_test : known other (remove_in ioa qs) ≡ pick (eqb ioa other) false (known other qs)
         → (k : Bool) → known other qs ≡ k → (b : Bool) → eqb q.ioa ioa ≡ b → (d : Bool) → eqb ioa other ≡ d → (e : Bool) → eqb q.ioa other ≡ e
         → known other (pick b qs (q ∷ remove_in ioa qs)) ≡ pick d false (pick e true (known other qs))
-    by-test ih true w true t true u e v =
+    by_test ih true w true t true u e v =
         let h : q.ioa + 1 ≤ other = known_from other (q.ioa + 1) qs (both _ _ (both _ _ r).1).1 w in
         let a : q.ioa ≡ ioa = eqb-true _ _ t in
         let b : ioa ≡ other = eqb-true _ _ u in
         absurd (omega arith)
-    by-test ih false w true t true u e v = w
-    by-test ih k w true t false u true v =
+    by_test ih false w true t true u e v = w
+    by_test ih k w true t false u true v =
         let a : q.ioa ≡ ioa = eqb-true _ _ t in
         let b : q.ioa ≡ other = eqb-true _ _ v in
         absurd (eqb-false ioa other u (omega arith))
-    by-test ih k w true t false u false v = refl
-    by-test ih k w false t true u true v =
+    by_test ih k w true t false u false v = refl
+    by_test ih k w false t true u true v =
         let a : ioa ≡ other = eqb-true _ _ u in
         let b : q.ioa ≡ other = eqb-true _ _ v in
         absurd (eqb-false q.ioa ioa t (omega arith))
-    by-test ih k w false t true u false v = simp v (ih ∙ simp u)
-    by-test ih k w false t false u true v = simp v
-    by-test ih k w false t false u false v = simp v (ih ∙ simp u)
+    by_test ih k w false t true u false v = simp v (ih ∙ simp u)
+    by_test ih k w false t false u true v = simp v
+    by_test ih k w false t false u false v = simp v (ih ∙ simp u)
 
 -- ---- lists only: a place closed up in one part, and two octets changed in another
 pub closed_at : (H B P L Q D Z E S T R T' : List ℕ) (from to at : ℕ)
@@ -154,13 +154,13 @@ module _ (t : Table) (before : List Station) (s : Station) (after : List Station
       ∙ ap (λ (l : List ℕ). head t.settings k S n ++ (bodies before ++ (l ++ (bodies after ++ (replicate (48 * (k - n)) 0 ++ (entries before ++ (F ++ (entries after ++ rest))))))))
       (ap (places_of s.ca) p.split ∙ places_at_lem s.ca p.below p.point p.above)
 
-  cut-removed : image (with_stations (before ++ (with_points (remove_in ioa) s ∷ after)) t) ++ rest
+  cut_removed : image (with_stations (before ++ (with_points (remove_in ioa) s ∷ after)) t) ++ rest
       ≡ head t.settings k (length before + suc (length after)) (n - 1) ++ (bodies before
       ++ ((places_of s.ca p.below ++ places_of s.ca p.above) ++ (bodies after
       ++ ((replicate 48 0 ++ replicate (48 * (k - n)) 0)
       ++ (entries before ++ ((six s.ca s.reservation s.ceiling ++ pair (held s - 1)) ++ (entries after ++ rest)))))))
   unfolding six
-  cut-removed =
+  cut_removed =
       let S : ℕ = length before + suc (length after) in
       let s' : Station = with_points (remove_in ioa) s in
       let a : total held (before ++ (s ∷ after)) ≡ total held before + (held s + total held after) = held_at_lem before s after in
@@ -176,12 +176,12 @@ module _ (t : Table) (before : List Station) (s : Station) (after : List Station
       ∙ (λ j. head t.settings k S (n - 1) ++ (bodies before ++ (ps j ++ (bodies after ++ (z j
       ++ (entries before ++ (eight s.ca s.reservation s.ceiling (h j) ++ (entries after ++ rest))))))))
 
-  taken-out-cut : (at : ℕ) → at ≡ 64 + 48 * (total held before + seek_in ioa s.points)
+  taken_out_cut : (at : ℕ) → at ≡ 64 + 48 * (total held before + seek_in ioa s.points)
       → over (over (closed_up (image (with_stations (before ++ (s ∷ after)) t) ++ rest) at (64 + 48 * n))
       (64 + 48 * k + 8 * length before + 6) (pair (held s - 1))) 8 (pair (n - 1))
       ≡ image (with_stations (before ++ (with_points (remove_in ioa) s ∷ after)) t) ++ rest
   unfolding six
-  taken-out-cut at e =
+  taken_out_cut at e =
       let S : ℕ = length before + suc (length after) in
       let P : List ℕ = places_of s.ca p.below in
       let Q : List ℕ = places_of s.ca p.above in
@@ -202,7 +202,7 @@ module _ (t : Table) (before : List Station) (s : Station) (after : List Station
       ap (λ (l : List ℕ). over (over (closed_up l at (64 + 48 * n)) (64 + 48 * k + 8 * length before + 6) (pair (held s - 1))) 8 (pair (n - 1))) cut
       ∙ ap (λ (l : List ℕ). over l 8 (pair (n - 1))) moved
       ∙ head_over t.settings k S n (n - 1) (bodies before ++ ((P ++ Q) ++ (bodies after ++ ((replicate 48 0 ++ Z) ++ (entries before ++ ((six' ++ pair (held s - 1)) ++ R))))))
-      ∙ sym cut-removed
+      ∙ sym cut_removed
 
 -- What `take_out` asks of the numbers.
 pub take_out_bounds : (t : Table) (m : List ℕ) (ca ioa : ℕ) (s : Station) (w : Found ca t.stations s) (i h at : ℕ) → Good t → Laid m t
@@ -238,7 +238,7 @@ taken_out_image t rest ca ioa s w i h at g k z =
     let same : image t ≡ image (with_stations (w.before ++ (s ∷ w.after)) t) = λ j. image (with_stations (w.split j) t) in
     (λ j. over (over (closed_up m at (64 + 48 * l.is_n j)) (64 + 48 * l.is_k j + 8 * z.index j + 6) (pair (z.count j - 1))) 8 (pair (l.is_n j - 1)))
     ∙ (λ j. over (over (closed_up (same j ++ rest) at (64 + 48 * n)) (64 + 48 * K + 8 * length w.before + 6) (pair (held s - 1))) 8 (pair (n - 1)))
-    ∙ taken-out-cut t w.before s w.after ioa n rest (ap (total held) (sym w.split)) g.few p at z.place
+    ∙ taken_out_cut t w.before s w.after ioa n rest (ap (total held) (sym w.split)) g.few p at z.place
     ∙ (λ j. image (with_stations (sym (stations_split t ca (remove_in ioa) s w) j) t) ++ rest)
 
 -- The same of a memory that holds a table: what lies past the table's octets stays.

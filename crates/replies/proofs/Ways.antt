@@ -21,20 +21,20 @@ no_table f m w = let p : parse m ≡ none = parse_none m w in (ap (reply_from f)
 
 module _ (f : Table → Effect) (m : List ℕ) (w : well_formed m ≡ true) where
   -- A table: its own reply, and its own memory.
-  pub of-table : (reply_on f m ≡ record { outcome = (f (table_of m)).outcome; place = (f (table_of m)).place })
+  pub of_table : (reply_on f m ≡ record { outcome = (f (table_of m)).outcome; place = (f (table_of m)).place })
       × (memory_on f m ≡ pick (is_done (f (table_of m)).outcome) (holding m (table_of m) (f (table_of m)).after) m)
   unfolding reply_from memory_from
-  of-table = let p : parse m ≡ some (table_of m) = parse_some m w in (ap (reply_from f) p, ap (memory_from f m) p)
+  of_table = let p : parse m ≡ some (table_of m) = parse_some m w in (ap (reply_from f) p, ap (memory_from f m) p)
 
   -- A refusal of the table's own.
-  pub refused-by : (o : Outcome) → (f (table_of m)).outcome ≡ o → (f (table_of m)).place ≡ 0 → is_done o ≡ false → Replies f m (placeless o) m
-  refused-by o e z d =
+  pub refused_by : (o : Outcome) → (f (table_of m)).outcome ≡ o → (f (table_of m)).place ≡ 0 → is_done o ≡ false → Replies f m (placeless o) m
+  refused_by o e z d =
       let d' : is_done (f (table_of m)).outcome ≡ false = ap is_done e ∙ d in
-      ((λ j. record { outcome = sym e j; place = sym z j }) ∙ sym of-table.0, sym (of-table.1 ∙ simp d'))
+      ((λ j. record { outcome = sym e j; place = sym z j }) ∙ sym of_table.0, sym (of_table.1 ∙ simp d'))
 
   -- Done, with the table after it stored.
-  pub done-by : (n : ℕ) (m' : List ℕ) → (f (table_of m)).outcome ≡ Done → (f (table_of m)).place ≡ n
+  pub done_by : (n : ℕ) (m' : List ℕ) → (f (table_of m)).outcome ≡ Done → (f (table_of m)).place ≡ n
       → m' ≡ holding m (table_of m) (f (table_of m)).after → Replies f m (record { outcome = Done; place = n }) m'
-  done-by n m' e z s =
+  done_by n m' e z s =
       let d : is_done (f (table_of m)).outcome ≡ true = ap is_done e in
-      ((λ j. record { outcome = sym e j; place = sym z j }) ∙ sym of-table.0, s ∙ sym (of-table.1 ∙ simp d))
+      ((λ j. record { outcome = sym e j; place = sym z j }) ∙ sym of_table.0, s ∙ sym (of_table.1 ∙ simp d))

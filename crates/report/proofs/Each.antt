@@ -22,35 +22,35 @@ module _ {A : Type 0} (P : A → Type 0) where
   each_take (suc k) [] e = tt
   each_take (suc k) (x ∷ xs) e = (e.0, each_take k xs e.1)
 
-  each-drop : (k : ℕ) (xs : List A) → Each P xs → Each P (drop k xs)
+  each_drop : (k : ℕ) (xs : List A) → Each P xs → Each P (drop k xs)
   unfolding Each
-  each-drop zero xs e = e
-  each-drop (suc k) [] e = tt
-  each-drop (suc k) (x ∷ xs) e = each-drop k xs e.1
+  each_drop zero xs e = e
+  each_drop (suc k) [] e = tt
+  each_drop (suc k) (x ∷ xs) e = each_drop k xs e.1
 
-  each-cut : (f most : ℕ) (xs : List A) → Each P xs → Each (Each P) (cut f most xs)
+  each_cut : (f most : ℕ) (xs : List A) → Each P xs → Each (Each P) (cut f most xs)
   unfolding cut Each
-  each-cut zero most xs e = tt
-  each-cut (suc f) most [] e = tt
-  each-cut (suc f) most (x ∷ xs) e = (each_take most (x ∷ xs) e, each-cut f most (drop most (x ∷ xs)) (each-drop most (x ∷ xs) e))
+  each_cut zero most xs e = tt
+  each_cut (suc f) most [] e = tt
+  each_cut (suc f) most (x ∷ xs) e = (each_take most (x ∷ xs) e, each_cut f most (drop most (x ∷ xs)) (each_drop most (x ∷ xs) e))
 
-  pub each-chunks : (most : ℕ) (xs : List A) → Each P xs → Each (Each P) (chunks most xs)
+  pub each_chunks : (most : ℕ) (xs : List A) → Each P xs → Each (Each P) (chunks most xs)
   unfolding chunks
-  each-chunks most xs e = each-cut (length xs) most xs e
+  each_chunks most xs e = each_cut (length xs) most xs e
 
-  pub each-selected : (test : A → Bool) (xs : List A) → Each P xs → Each P (selected test xs)
+  pub each_selected : (test : A → Bool) (xs : List A) → Each P xs → Each P (selected test xs)
   unfolding Each selected
-  each-selected test [] e = tt
-  each-selected test (x ∷ xs) e = go (test x) (each-selected test xs e.1)
+  each_selected test [] e = tt
+  each_selected test (x ∷ xs) e = go (test x) (each_selected test xs e.1)
     where
       go : (b : Bool) → Each P (selected test xs) → Each P (pick b (x ∷ selected test xs) (selected test xs))
       go true r = (e.0, r)
       go false r = r
 
-  pub each-joined : {B : Type 0} (f : B → List A) → ((x : B) → Each P (f x)) → (xs : List B) → Each P (joined f xs)
+  pub each_joined : {B : Type 0} (f : B → List A) → ((x : B) → Each P (f x)) → (xs : List B) → Each P (joined f xs)
   unfolding joined Each
-  each-joined f h [] = tt
-  each-joined f h (x ∷ xs) = each_append (f x) (joined f xs) (h x) (each-joined f h xs)
+  each_joined f h [] = tt
+  each_joined f h (x ∷ xs) = each_append (f x) (joined f xs) (h x) (each_joined f h xs)
 
   pub each_of : ((x : A) → P x) → (xs : List A) → Each P xs
   unfolding Each
@@ -122,24 +122,24 @@ total_more {A} n g (x ∷ xs) =
 -- ---- counting
 
 module _ {A : Type 0} (f : A → Bool) where
-  pub selected-append : (xs ys : List A) → selected f (xs ++ ys) ≡ selected f xs ++ selected f ys
+  pub selected_append : (xs ys : List A) → selected f (xs ++ ys) ≡ selected f xs ++ selected f ys
   unfolding selected
-  selected-append [] ys = refl
-  selected-append (x ∷ xs) ys = go (f x) (selected-append xs ys)
+  selected_append [] ys = refl
+  selected_append (x ∷ xs) ys = go (f x) (selected_append xs ys)
     where
       go : (b : Bool) → selected f (xs ++ ys) ≡ selected f xs ++ selected f ys
           → pick b (x ∷ selected f (xs ++ ys)) (selected f (xs ++ ys)) ≡ pick b (x ∷ selected f xs) (selected f xs) ++ selected f ys
       go true e = ap (λ (l : List A). x ∷ l) e
       go false e = e
 
-  pub counted-append : (xs ys : List A) → counted f (xs ++ ys) ≡ counted f xs + counted f ys
-  counted-append xs ys = ap length (selected-append xs ys) ∙ length-append (selected f xs) (selected f ys)
+  pub counted_append : (xs ys : List A) → counted f (xs ++ ys) ≡ counted f xs + counted f ys
+  counted_append xs ys = ap length (selected_append xs ys) ∙ length-append (selected f xs) (selected f ys)
 
   -- one test after another
-  pub selected-selected : (g : A → Bool) (xs : List A) → selected f (selected g xs) ≡ selected (λ x. g x & f x) xs
+  pub selected_selected : (g : A → Bool) (xs : List A) → selected f (selected g xs) ≡ selected (λ x. g x & f x) xs
   unfolding selected ◌&◌
-  selected-selected g [] = refl
-  selected-selected g (x ∷ xs) = go (g x) (f x) refl (selected-selected g xs)
+  selected_selected g [] = refl
+  selected_selected g (x ∷ xs) = go (g x) (f x) refl (selected_selected g xs)
     where
       go : (a b : Bool) → f x ≡ b → selected f (selected g xs) ≡ selected (λ y. g y & f y) xs
           → selected f (pick a (x ∷ selected g xs) (selected g xs)) ≡ pick (a & b) (x ∷ selected (λ y. g y & f y) xs) (selected (λ y. g y & f y) xs)

@@ -16,7 +16,7 @@ use Rattle.report.specs.Packing.{selected, joined, Each, counted}
 use Rattle.report.specs.Selection.{among, Above, StrictlyAscending}
 use Rattle.report.specs.Report.{of_kind, ordered}
 use Rattle.report.specs.Order.{Before, InOrder, Climbing}
-use Rattle.report.proofs.Each.{each_append, each-selected, each_so, each_both, each-joined, selected_pass, selected_none, selected-selected, counted-append}
+use Rattle.report.proofs.Each.{each_append, each_selected, each_so, each_both, each_joined, selected_pass, selected_none, selected_selected, counted_append}
 
 -- ---- the set of types
 
@@ -38,7 +38,7 @@ ordered_cons k ks ps = refl
 -- NOTHING ELSE: every point of the ordered list is one of those given, as far as any property tells, and has a type of the set
 pub ordered_each : (P : Point → Type 0) (types : List ℕ) (ps : List Point) → Each P ps → Each P (ordered types ps)
 unfolding ordered
-ordered_each P types ps e = each-joined P (λ (kind : ℕ). of_kind kind ps) (λ kind. each-selected P (λ p. eqb p.kind kind) ps e) types
+ordered_each P types ps e = each_joined P (λ (kind : ℕ). of_kind kind ps) (λ kind. each_selected P (λ p. eqb p.kind kind) ps e) types
 
 -- the first of a set, and the others
 among_first : (k : ℕ) (ks : List ℕ) (p : Point) → eqb p.kind k ≡ true → among (k ∷ ks) p.kind ≡ true
@@ -116,8 +116,8 @@ unfolding StrictlyAscending selected
 ordered_counted f [] a ps = ap (counted f) (ordered_nil ps) ∙ sym (none_counted f ps)
 ordered_counted f (k ∷ ks) a ps =
     ap (counted f) (ordered_cons k ks ps)
-    ∙ counted-append f (of_kind k ps) (ordered ks ps)
-    ∙ ap₂ (λ (x y : ℕ). x + y) (ap length (selected-selected f (λ (p : Point). eqb p.kind k) ps)) (ordered_counted f ks a.1 ps)
+    ∙ counted_append f (of_kind k ps) (ordered ks ps)
+    ∙ ap₂ (λ (x y : ℕ). x + y) (ap length (selected_selected f (λ (p : Point). eqb p.kind k) ps)) (ordered_counted f ks a.1 ps)
     ∙ counted_cons f k ks (above_not k ks a.0) ps
 
 -- ---- in order
@@ -145,7 +145,7 @@ climbing_selected test [] c = tt
 climbing_selected test (p ∷ ps) c = go (test p) (climbing_selected test ps c.1)
   where
     go : (b : Bool) → Climbing (selected test ps) → Climbing (pick b (p ∷ selected test ps) (selected test ps))
-    go true r = (each-selected (λ q. p.ioa < q.ioa) test ps c.0, r)
+    go true r = (each_selected (λ q. p.ioa < q.ioa) test ps c.0, r)
     go false r = r
 
 -- climbing points of one type, and then points of greater types in order
@@ -224,7 +224,7 @@ pub each_once : (test : Point → Bool) (types : List ℕ) → StrictlyAscending
     → counted (λ q. eqb q.ioa p.ioa) (ordered types (selected test (before ++ (p ∷ after)))) ≡ 1
 each_once test types a before after p c e m =
     ordered_counted (λ q. eqb q.ioa p.ioa) types a (selected test (before ++ (p ∷ after)))
-    ∙ ap length (selected-selected (λ q. among types q.kind & eqb q.ioa p.ioa) test (before ++ (p ∷ after)))
+    ∙ ap length (selected_selected (λ q. among types q.kind & eqb q.ioa p.ioa) test (before ++ (p ∷ after)))
     ∙ alone (λ q. test q & (among types q.kind & eqb q.ioa p.ioa)) p
     (join e (join m (eq-eqb p.ioa p.ioa refl)))
     (λ q h. eqb-true q.ioa p.ioa (both _ _ (both _ _ h).1).1)

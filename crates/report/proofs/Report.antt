@@ -17,8 +17,8 @@ use Rattle.asdu.proofs.Laws.{length_asdu, length_object as object-octets}
 use Rattle.model.specs.declared.Point.{Point}
 use Rattle.report.specs.Packing.{joined, chunks, Full, Each}
 use Rattle.report.specs.Report.{data_header, data_asdu, object_of, of_kind, ordered, run, report}
-use Rattle.report.proofs.Packing.{joined-map, joined-joined, joined_same, map_joined, length-joined, chunks-flat, chunks-full, chunks-count}
-use Rattle.report.proofs.Each.{each-chunks, each_both, each_so, each_of, each_then, each-joined, each-selected, selected_pass, full_each, length_even, total_more, total_same}
+use Rattle.report.proofs.Packing.{joined_map, joined_joined, joined_same, map_joined, length_joined, chunks_flat, chunks_full, chunks_count}
+use Rattle.report.proofs.Each.{each_chunks, each_both, each_so, each_of, each_then, each_joined, each_selected, selected_pass, full_each, length_even, total_more, total_same}
 
 -- A point's value has twelve octets.
 abbrev pub Whole : Point → Type 0
@@ -41,7 +41,7 @@ length_object p w =
 pub kind_sized : (kind : ℕ) (ps : List Point) → Each Whole ps → Each (Sized kind) (map object_of (of_kind kind ps))
 kind_sized kind ps w =
     each_then (λ p. (eqb p.kind kind ≡ true) × Whole p) (Sized kind) object_of (λ p h. size p h) (of_kind kind ps)
-    (each_both (λ p. eqb p.kind kind ≡ true) Whole (of_kind kind ps) (selected_pass (λ p. eqb p.kind kind) ps) (each-selected Whole (λ p. eqb p.kind kind) ps w))
+    (each_both (λ p. eqb p.kind kind ≡ true) Whole (of_kind kind ps) (selected_pass (λ p. eqb p.kind kind) ps) (each_selected Whole (λ p. eqb p.kind kind) ps w))
   where
     size : (p : Point) → (eqb p.kind kind ≡ true) × Whole p → Sized kind (object_of p)
     size p h = subst (λ (k : ℕ). length (object_octets (object_of p)) ≡ 3 + point_octets k) (eqb-true p.kind kind h.0) (length_object p h.1)
@@ -62,40 +62,40 @@ module _ (limit : ℕ) (high : 25 ≤ limit) where
   -- ---- the objects
 
   -- the objects of the ASDUs of a run are those of `chunks`
-  pub run-chunks : (cause ca kind : ℕ) (xs : List Object) → map (λ a. a.objects) (run limit cause ca kind xs) ≡ chunks (most_objects limit (point_octets kind)) xs
+  pub run_chunks : (cause ca kind : ℕ) (xs : List Object) → map (λ a. a.objects) (run limit cause ca kind xs) ≡ chunks (most_objects limit (point_octets kind)) xs
   unfolding run
-  run-chunks cause ca kind xs = same (chunks (most_objects limit (point_octets kind)) xs)
+  run_chunks cause ca kind xs = same (chunks (most_objects limit (point_octets kind)) xs)
     where
       same : (cs : List (List Object)) → map (λ (a : Asdu). a.objects) (map (data_asdu kind cause ca) cs) ≡ cs
       same [] = refl
       same (c ∷ cs) = ap (λ (l : List (List Object)). c ∷ l) (same cs)
 
   -- the objects of a run, read in order, are those that went in
-  pub run-objects : (cause ca kind : ℕ) (xs : List Object) → joined (λ a. a.objects) (run limit cause ca kind xs) ≡ xs
+  pub run_objects : (cause ca kind : ℕ) (xs : List Object) → joined (λ a. a.objects) (run limit cause ca kind xs) ≡ xs
   unfolding run
-  run-objects cause ca kind xs =
-      joined-map (λ (a : Asdu). a.objects) (data_asdu kind cause ca) (chunks (most_objects limit (point_octets kind)) xs)
-      ∙ chunks-flat (most_objects limit (point_octets kind)) (one_object kind) xs
+  run_objects cause ca kind xs =
+      joined_map (λ (a : Asdu). a.objects) (data_asdu kind cause ca) (chunks (most_objects limit (point_octets kind)) xs)
+      ∙ chunks_flat (most_objects limit (point_octets kind)) (one_object kind) xs
 
   -- THE OBJECTS of a report, read in order, are those of the points of each type, one type after another
-  pub report-objects : (types : List ℕ) (cause ca : ℕ) (ps : List Point) → joined (λ a. a.objects) (report limit types cause ca ps) ≡ map object_of (ordered types ps)
+  pub report_objects : (types : List ℕ) (cause ca : ℕ) (ps : List Point) → joined (λ a. a.objects) (report limit types cause ca ps) ≡ map object_of (ordered types ps)
   unfolding report ordered
-  report-objects types cause ca ps =
-      joined-joined (λ (a : Asdu). a.objects) (λ (kind : ℕ). run limit cause ca kind (map object_of (of_kind kind ps))) types
-      ∙ joined_same _ (λ (kind : ℕ). map object_of (of_kind kind ps)) (λ kind. run-objects cause ca kind (map object_of (of_kind kind ps))) types
+  report_objects types cause ca ps =
+      joined_joined (λ (a : Asdu). a.objects) (λ (kind : ℕ). run limit cause ca kind (map object_of (of_kind kind ps))) types
+      ∙ joined_same _ (λ (kind : ℕ). map object_of (of_kind kind ps)) (λ kind. run_objects cause ca kind (map object_of (of_kind kind ps))) types
       ∙ sym (map_joined object_of (λ (kind : ℕ). of_kind kind ps) types)
 
   -- the octets of a report are those of the runs of its types, one after another
-  pub report-runs : (types : List ℕ) (cause ca : ℕ) (ps : List Point)
+  pub report_runs : (types : List ℕ) (cause ca : ℕ) (ps : List Point)
       → wire (report limit types cause ca ps) ≡ joined (λ kind. wire (run limit cause ca kind (map object_of (of_kind kind ps)))) types
   unfolding report wire
-  report-runs types cause ca ps = joined-joined asdu_octets (λ (kind : ℕ). run limit cause ca kind (map object_of (of_kind kind ps))) types
+  report_runs types cause ca ps = joined_joined asdu_octets (λ (kind : ℕ). run limit cause ca kind (map object_of (of_kind kind ps))) types
 
   -- ---- full, none empty
 
   -- EVERY ASDU of a run is as full as allowed but the last, and none is empty
-  pub run-full : (cause ca kind : ℕ) (xs : List Object) → Full (most_objects limit (point_octets kind)) (map (λ a. a.objects) (run limit cause ca kind xs))
-  run-full cause ca kind xs = rw (run-chunks cause ca kind xs) (chunks-full (most_objects limit (point_octets kind)) (one_object kind) xs)
+  pub run_full : (cause ca kind : ℕ) (xs : List Object) → Full (most_objects limit (point_octets kind)) (map (λ a. a.objects) (run limit cause ca kind xs))
+  run_full cause ca kind xs = rw (run_chunks cause ca kind xs) (chunks_full (most_objects limit (point_octets kind)) (one_object kind) xs)
 
   -- ---- headers and lengths
 
@@ -113,8 +113,8 @@ module _ (limit : ℕ) (high : 25 ≤ limit) where
   run_fits cause ca kind xs w =
       each_then Cut (Fits cause ca kind) (data_asdu kind cause ca) fits cs
       (each_both (λ c. (0 < length c) × (length c ≤ most)) (Each (Sized kind)) cs
-      (full_each most cs (chunks-full most (one_object kind) xs))
-      (each-chunks (Sized kind) most xs w))
+      (full_each most cs (chunks_full most (one_object kind) xs))
+      (each_chunks (Sized kind) most xs w))
     where
       most : ℕ
       most = most_objects limit (point_octets kind)
@@ -140,43 +140,43 @@ module _ (limit : ℕ) (high : 25 ≤ limit) where
       let most : ℕ = most_objects limit (point_octets kind) in
       let cs : List (List Object) = chunks most xs in
       let j : length (joined asdu_octets (map (data_asdu kind cause ca) cs)) ≡ total (λ (c : List Object). 6 + length (joined object_octets c)) cs =
-      ap length (joined-map asdu_octets (data_asdu kind cause ca) cs)
-      ∙ length-joined (λ (c : List Object). asdu_octets (data_asdu kind cause ca c)) cs
+      ap length (joined_map asdu_octets (data_asdu kind cause ca) cs)
+      ∙ length_joined (λ (c : List Object). asdu_octets (data_asdu kind cause ca c)) cs
       ∙ total_same (λ (c : List Object). length (asdu_octets (data_asdu kind cause ca c))) (λ (c : List Object). 6 + length (joined object_octets c)) (λ c. length_asdu (data_asdu kind cause ca c)) cs in
       let t : total (λ (c : List Object). 6 + length (joined object_octets c)) cs ≡ 6 * length cs + total (λ (c : List Object). length (joined object_octets c)) cs =
       total_more 6 (λ (c : List Object). length (joined object_octets c)) cs in
-      let n : length cs ≡ asdus_of most (length xs) = chunks-count most (one_object kind) xs in
+      let n : length cs ≡ asdus_of most (length xs) = chunks_count most (one_object kind) xs in
       let f : total (λ (c : List Object). length (joined object_octets c)) cs ≡ length (joined object_octets xs) =
-      sym (length-joined (λ (c : List Object). joined object_octets c) cs)
-      ∙ ap length (sym (joined-joined object_octets (λ (c : List Object). c) cs) ∙ ap (joined object_octets) (chunks-flat most (one_object kind) xs)) in
+      sym (length_joined (λ (c : List Object). joined object_octets c) cs)
+      ∙ ap length (sym (joined_joined object_octets (λ (c : List Object). c) cs) ∙ ap (joined object_octets) (chunks_flat most (one_object kind) xs)) in
       let l : length (joined object_octets xs) ≡ length xs * (3 + point_octets kind) = length_even object_octets (3 + point_octets kind) xs w in
       j ∙ t ∙ ap₂ (λ (x y : ℕ). 6 * x + y) n (f ∙ l)
 
   -- the octets of a report
-  pub length-report : (types : List ℕ) (cause ca : ℕ) (ps : List Point) → Each Whole ps
+  pub length_report : (types : List ℕ) (cause ca : ℕ) (ps : List Point) → Each Whole ps
       → length (wire (report limit types cause ca ps)) ≡ total (λ kind. run_octets limit (point_octets kind) (length (of_kind kind ps))) types
-  length-report types cause ca ps w =
-      ap length (report-runs types cause ca ps)
-      ∙ length-joined (λ (kind : ℕ). wire (run limit cause ca kind (map object_of (of_kind kind ps)))) types
+  length_report types cause ca ps w =
+      ap length (report_runs types cause ca ps)
+      ∙ length_joined (λ (kind : ℕ). wire (run limit cause ca kind (map object_of (of_kind kind ps)))) types
       ∙ total_same _ (λ (kind : ℕ). run_octets limit (point_octets kind) (length (of_kind kind ps)))
       (λ kind. length_run cause ca kind (map object_of (of_kind kind ps)) (kind_sized kind ps w)
       ∙ ap (run_octets limit (point_octets kind)) (length-map (of_kind kind ps) object_of)) types
 
   -- EVERY ASDU of a report has the cause, the CA, and the count of its objects
-  pub report-headers : (types : List ℕ) (cause ca : ℕ) (ps : List Point) → Each (Data cause ca) (report limit types cause ca ps)
+  pub report_headers : (types : List ℕ) (cause ca : ℕ) (ps : List Point) → Each (Data cause ca) (report limit types cause ca ps)
   unfolding report run
-  report-headers types cause ca ps =
-      each-joined (Data cause ca) (λ (kind : ℕ). map (data_asdu kind cause ca) (chunks (most_objects limit (point_octets kind)) (map object_of (of_kind kind ps))))
+  report_headers types cause ca ps =
+      each_joined (Data cause ca) (λ (kind : ℕ). map (data_asdu kind cause ca) (chunks (most_objects limit (point_octets kind)) (map object_of (of_kind kind ps))))
       (λ kind. headers kind (chunks (most_objects limit (point_octets kind)) (map object_of (of_kind kind ps)))) types
     where
       headers : (kind : ℕ) (cs : List (List Object)) → Each (Data cause ca) (map (data_asdu kind cause ca) cs)
       headers kind cs = each_then (λ c. Unit) (Data cause ca) (data_asdu kind cause ca) (λ c h. refl) cs (each_of (λ c. Unit) (λ c. tt) cs)
 
   -- NO ASDU of a report is empty or longer than the limit less four octets
-  pub report-fits : (types : List ℕ) (cause ca : ℕ) (ps : List Point) → Each Whole ps → Each (Short limit) (report limit types cause ca ps)
+  pub report_fits : (types : List ℕ) (cause ca : ℕ) (ps : List Point) → Each Whole ps → Each (Short limit) (report limit types cause ca ps)
   unfolding report
-  report-fits types cause ca ps w =
-      each-joined (Short limit) (λ (kind : ℕ). run limit cause ca kind (map object_of (of_kind kind ps)))
+  report_fits types cause ca ps w =
+      each_joined (Short limit) (λ (kind : ℕ). run limit cause ca kind (map object_of (of_kind kind ps)))
       (λ kind.
       each_so (Fits cause ca kind) (Short limit) (λ a f. (f.some, f.short)) (run limit cause ca kind (map object_of (of_kind kind ps)))
       (run_fits cause ca kind (map object_of (of_kind kind ps)) (kind_sized kind ps w)))

@@ -11,7 +11,7 @@ use Rattle.limits.specs.Test.{pick}
 use Rattle.limits.specs.Size.{point_octets}
 use Rattle.limits.proofs.Tests.{both}
 use Rattle.asdu.specs.Header.{header, object_octets, asdu_octets}
-use Rattle.asdu.proofs.Joined.{joined-one}
+use Rattle.asdu.proofs.Joined.{joined_one}
 use Rattle.asdu.proofs.Laws.{length_asdu}
 use Rattle.model.specs.declared.Point.{Point}
 use Rattle.table.specs.Table.{Station, held, plan_ok, numbers_ok}
@@ -27,7 +27,7 @@ unfolding single
 length_single cause ca p w =
     let a : length (asdu_octets (data_asdu p.kind cause ca (object_of p ∷ []))) ≡ 6 + length (joined object_octets (object_of p ∷ [])) =
     length_asdu (data_asdu p.kind cause ca (object_of p ∷ [])) in
-    let b : length (joined object_octets (object_of p ∷ [])) ≡ length (object_octets (object_of p)) = ap length (joined-one object_octets (object_of p)) in
+    let b : length (joined object_octets (object_of p ∷ [])) ≡ length (object_octets (object_of p)) = ap length (joined_one object_octets (object_of p)) in
     let c : length (object_octets (object_of p)) ≡ 3 + point_octets p.kind = length_object p w in
     omega arith
 

@@ -20,13 +20,13 @@ module _ (sel : Selection) (m : List ℕ) (at : ℕ) where
   not_taken e = simp e
 
   -- of a counter the selection says
-  pub is-taken : is_counter (get_or m at 0) ≡ true → takes_at sel m at ≡ selects sel (point_at m at)
+  pub is_taken : is_counter (get_or m at 0) ≡ true → takes_at sel m at ≡ selects sel (point_at m at)
   unfolding takes_at ◌&◌
-  is-taken e = simp e
+  is_taken e = simp e
 
-  pub place-reset : takes_at sel m at ≡ true → over m (at + 10) (replicate 4 0) ≡ reset_place sel m at
+  pub place_reset : takes_at sel m at ≡ true → over m (at + 10) (replicate 4 0) ≡ reset_place sel m at
   unfolding reset_place
-  place-reset e = rw e
+  place_reset e = rw e
 
   pub place_kept : takes_at sel m at ≡ false → m ≡ reset_place sel m at
   unfolding reset_place

@@ -22,7 +22,7 @@ use Rattle.report.specs.Single.{requested_asdu}
 use Rattle.answers.specs.declared.Answered.{Answered}
 use Rattle.answers.specs.Said.{size, nothing, given, Sends}
 use Rattle.answers.specs.System.{echoed, points_read, read_answer}
-use Rattle.answers.proofs.Ends.{sends-nothing, sends-all, sends_along}
+use Rattle.answers.proofs.Ends.{sends_nothing, sends_all, sends_along}
 use Rattle.read_data.specs.Reads.{requested_by}
 use Rattle.read_data.proofs.Entry.{Requested}
 
@@ -56,19 +56,19 @@ read_denied c asdu out q e r out' s = sends_along _ _ out out' r (sym (ap (read_
 -- Every address is known.
 module _ (m : List ℕ) (first h : ℕ) (c : Command) (asdu out : List ℕ) (octets : ℕ) (z : Requested m first h c asdu octets)
     (whole : length asdu ≡ object_at c.element c.count) where
-  wire-read : wire (read_answer c asdu (points_read c asdu (table_of m))) ≡ asdu_octets (echoed c asdu false) ++ wire (map (requested_asdu c.ca) z.points)
+  wire_read : wire (read_answer c asdu (points_read c asdu (table_of m))) ≡ asdu_octets (echoed c asdu false) ++ wire (map (requested_asdu c.ca) z.points)
   unfolding read_answer wire joined
-  wire-read = ap (λ (q : Option (List Point)). wire (read_answer c asdu q)) z.is_asked
+  wire_read = ap (λ (q : Option (List Point)). wire (read_answer c asdu q)) z.is_asked
 
-  size-read : size (read_answer c asdu (points_read c asdu (table_of m))) ≡ length asdu + octets
-  size-read =
+  size_read : size (read_answer c asdu (points_read c asdu (table_of m))) ≡ length asdu + octets
+  size_read =
       let e = length_echo c asdu 7 false whole in
       let k = z.is_octets in
-      ap length wire-read ∙ simp length-append (omega arith)
+      ap length wire_read ∙ simp length-append (omega arith)
 
   -- There is no room.
   pub read_short : length out < length asdu + octets → Sends (read_answer c asdu (points_read c asdu (table_of m))) out (nothing AnswerShort) out
-  read_short h' = let l = size-read in sends-nothing _ out (omega arith)
+  read_short h' = let l = size_read in sends_nothing _ out (omega arith)
 
   -- The echo, then the requested ASDUs.
   pub read_written : length asdu + octets ≤ length out → (out₁ out₂ : List ℕ) (r : ℕ) → out₁ ≡ over out 0 (asdu_octets (echoed c asdu false))
@@ -76,10 +76,10 @@ module _ (m : List ℕ) (first h : ℕ) (c : Command) (asdu out : List ℕ) (oct
   read_written fit out₁ out₂ r e₁ e₂ =
       let E : List ℕ = asdu_octets (echoed c asdu false) in
       let D : List ℕ = wire (map (requested_asdu c.ca) z.points) in
-      let l = size-read in
+      let l = size_read in
       let k = z.is_octets in
       let d = ap wire z.is_data in
       let n = e₂.0 ∙ ap (λ (x : List ℕ). length asdu + length x) d in
       let o = e₂.1 ∙ (λ j. over (e₁ j) (length asdu) (d j)) in
-      sends-all _ out r out₂ (omega arith) (omega arith)
-      (o ∙ one_after_another out E D (length asdu) (length_echo c asdu 7 false whole) (omega arith) ∙ ap (over out 0) (sym wire-read))
+      sends_all _ out r out₂ (omega arith) (omega arith)
+      (o ∙ one_after_another out E D (length asdu) (length_echo c asdu 7 false whole) (omega arith) ∙ ap (over out 0) (sym wire_read))

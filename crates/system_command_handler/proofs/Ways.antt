@@ -60,27 +60,27 @@ one_octet = (refl, refl, refl, refl)
 -- ---- what each type says
 
 module _ (clock m : List ℕ) (c : Command) (t : Table) where
-  pub said-interrogation : c.kind ≡ 100 → command_said clock m c t ≡ says (interrogation_answer c m t) t clock
+  pub said_interrogation : c.kind ≡ 100 → command_said clock m c t ≡ says (interrogation_answer c m t) t clock
   unfolding command_said
-  said-interrogation e = simp (eq-eqb _ _ e)
+  said_interrogation e = simp (eq-eqb _ _ e)
 
-  pub said-counters : (c.kind ≡ 100 → ⊥) → c.kind ≡ 101
+  pub said_counters : (c.kind ≡ 100 → ⊥) → c.kind ≡ 101
       → command_said clock m c t ≡ record { outcome = Done; answer = counter_answer c m t; told = []; after = after_counters t c.ca (qualifier_of m); clock = clock }
   unfolding command_said
-  said-counters n e = simp (ne_eqb _ _ n, eq-eqb _ _ e)
+  said_counters n e = simp (ne_eqb _ _ n, eq-eqb _ _ e)
 
   pub said_read : (c.kind ≡ 100 → ⊥) → (c.kind ≡ 101 → ⊥) → c.kind ≡ 102 → command_said clock m c t ≡ says (read_answer c m (points_read c m t)) t clock
   unfolding command_said
   said_read n₁ n₂ e = simp (ne_eqb _ _ n₁, ne_eqb _ _ n₂, eq-eqb _ _ e)
 
   module _ (n₁ : c.kind ≡ 100 → ⊥) (n₂ : c.kind ≡ 101 → ⊥) (n₃ : c.kind ≡ 102 → ⊥) where
-    pub said-clock : c.kind ≡ 103 → command_said clock m c t ≡ says (echoed c m false ∷ []) t (clock_from m)
+    pub said_clock : c.kind ≡ 103 → command_said clock m c t ≡ says (echoed c m false ∷ []) t (clock_from m)
     unfolding command_said
-    said-clock e = simp (ne_eqb _ _ n₁, ne_eqb _ _ n₂, ne_eqb _ _ n₃, eq-eqb _ _ e)
+    said_clock e = simp (ne_eqb _ _ n₁, ne_eqb _ _ n₂, ne_eqb _ _ n₃, eq-eqb _ _ e)
 
-    pub said-echo : (c.kind ≡ 103 → ⊥) → command_said clock m c t ≡ says (echoed c m false ∷ []) t clock
+    pub said_echo : (c.kind ≡ 103 → ⊥) → command_said clock m c t ≡ says (echoed c m false ∷ []) t clock
     unfolding command_said
-    said-echo e = simp (ne_eqb _ _ n₁, ne_eqb _ _ n₂, ne_eqb _ _ n₃, ne_eqb _ _ e)
+    said_echo e = simp (ne_eqb _ _ n₁, ne_eqb _ _ n₂, ne_eqb _ _ n₃, ne_eqb _ _ e)
 
 -- A clock that stays.
 pub same_clock : (b : Bool) (clock : List ℕ) → clock ≡ pick b clock clock
@@ -101,24 +101,24 @@ silent_some c m h = let n : c.count ≡ 0 → ⊥ = λ q. omega arith in simp (n
 
 module _ (clock m : List ℕ) (t : Table) where
   -- No command was read: its number.
-  pub unread-says : (r : Reading) → OneOf (0 ∷ 1 ∷ 2 ∷ []) (tag_of the_type r) → r ≡ read_as (limit_of t) SystemCommands m
+  pub unread_says : (r : Reading) → OneOf (0 ∷ 1 ∷ 2 ∷ []) (tag_of the_type r) → r ≡ read_as (limit_of t) SystemCommands m
       → ((system_said clock m t).outcome ≡ outcome_of r) × (is_done (outcome_of r) ≡ false)
   unfolding system_from
-  unread-says r k e = let z = by-reading r k in (ap (λ (x : Reading). (system_from clock m x t).outcome) (sym e) ∙ z.0, z.1)
+  unread_says r k e = let z = by_reading r k in (ap (λ (x : Reading). (system_from clock m x t).outcome) (sym e) ∙ z.0, z.1)
     where
-      by-reading : (x : Reading) → OneOf (0 ∷ 1 ∷ 2 ∷ []) (tag_of the_type x) → ((system_from clock m x t).outcome ≡ outcome_of x) × (is_done (outcome_of x) ≡ false)
-      by-reading LengthOutOfRange k' = (refl, refl)
-      by-reading TypeNotServed k' = (refl, refl)
-      by-reading ObjectsNotWhole k' = (refl, refl)
-      by-reading (Parsed c) k' = absurd (⊎_elim (λ e. omega arith) (λ v. ⊎_elim (λ e. omega arith) (λ e. omega arith) v) k')
+      by_reading : (x : Reading) → OneOf (0 ∷ 1 ∷ 2 ∷ []) (tag_of the_type x) → ((system_from clock m x t).outcome ≡ outcome_of x) × (is_done (outcome_of x) ≡ false)
+      by_reading LengthOutOfRange k' = (refl, refl)
+      by_reading TypeNotServed k' = (refl, refl)
+      by_reading ObjectsNotWhole k' = (refl, refl)
+      by_reading (Parsed c) k' = absurd (⊎_elim (λ e. omega arith) (λ v. ⊎_elim (λ e. omega arith) (λ e. omega arith) v) k')
 
   module _ (c : Command) (e : read_as (limit_of t) SystemCommands m ≡ Parsed c) where
     -- A command that is passed over.
-    pub silent-says : is_silent c m ≡ true → (system_said clock m t).outcome ≡ Silent
+    pub silent_says : is_silent c m ≡ true → (system_said clock m t).outcome ≡ Silent
     unfolding system_from
-    silent-says s = ap (λ (r : Reading). (system_from clock m r t).outcome) e ∙ simp s
+    silent_says s = ap (λ (r : Reading). (system_from clock m r t).outcome) e ∙ simp s
 
     -- A command that is taken says what its type says.
-    pub taken-says : is_silent c m ≡ false → command_said clock m c t ≡ system_said clock m t
+    pub taken_says : is_silent c m ≡ false → command_said clock m c t ≡ system_said clock m t
     unfolding system_from
-    taken-says s = sym (ap (λ (r : Reading). system_from clock m r t) e ∙ simp s)
+    taken_says s = sym (ap (λ (r : Reading). system_from clock m r t) e ∙ simp s)

@@ -14,7 +14,7 @@ use Rattle.limits.specs.Share.{Sound, taken_in, let_go, admission_in, free_of, u
 use Rattle.limits.specs.declared.share.Share.{Share}
 use Rattle.limits.specs.declared.share.Admission.TheVariants.{Admitted}
 use Rattle.limits.proofs.Tests.{both, join}
-use Rattle.limits.proofs.Shares.{admitted-only, take-in-keeps-sound, let-go-keeps-sound, fresh_plan_sound, NothingHeld, reservation_of}
+use Rattle.limits.proofs.Shares.{admitted_only, take_in_keeps_sound, let_go_keeps_sound, fresh_plan_sound, NothingHeld, reservation_of}
 use Rattle.model.specs.declared.Point.{Point}
 use Rattle.model.specs.Place.{point_ok}
 use Rattle.table.specs.Table.{Station, Table, highest_ca, held, share_of, reserved, rising, all_rising}
@@ -40,24 +40,24 @@ pub record Found (ca : ℕ) (ss : List Station) (s : Station) : Type 0 where
 pub station_found : (ca : ℕ) (ss : List Station) (s : Station) → station_of ca ss ≡ some s → Found ca ss s
 unfolding station_of
 station_found ca [] s e = let z : ◌≡◌ {A = ℕ} 0 1 = cc in absurd (omega arith)
-station_found ca (x ∷ ss) s e = by-test (λ r. station_found ca ss s r) (eqb x.ca ca) refl e
+station_found ca (x ∷ ss) s e = by_test (λ r. station_found ca ss s r) (eqb x.ca ca) refl e
   where
-    by-test : (station_of ca ss ≡ some s → Found ca ss s) → (b : Bool) → eqb x.ca ca ≡ b → pick b (some x) (station_of ca ss) ≡ some s → Found ca (x ∷ ss) s
-    by-test ih true t e' =
+    by_test : (station_of ca ss ≡ some s → Found ca ss s) → (b : Bool) → eqb x.ca ca ≡ b → pick b (some x) (station_of ca ss) ≡ some s → Found ca (x ∷ ss) s
+    by_test ih true t e' =
         let q : x ≡ s = cc in
         record { before = []; after = ss; split = ap (λ (y : Station). y ∷ ss) q; absent = absent_none; is_ca = ap (λ (y : Station). y.ca) (sym q) ∙ eqb-true _ _ t }
-    by-test ih false t e' =
+    by_test ih false t e' =
         let f = ih e' in
         record { before = x ∷ f.before; after = f.after; split = ap (λ (l : List Station). x ∷ l) f.split; absent = absent_more (eqb-false _ _ t) f.absent; is_ca = f.is_ca }
 
 pub station_absent : (ca : ℕ) (ss : List Station) → station_of ca ss ≡ none → Absent ca ss
 unfolding station_of
 station_absent ca [] e = absent_none
-station_absent ca (x ∷ ss) e = by-test (λ r. station_absent ca ss r) (eqb x.ca ca) refl e
+station_absent ca (x ∷ ss) e = by_test (λ r. station_absent ca ss r) (eqb x.ca ca) refl e
   where
-    by-test : (station_of ca ss ≡ none → Absent ca ss) → (b : Bool) → eqb x.ca ca ≡ b → pick b (some x) (station_of ca ss) ≡ none → Absent ca (x ∷ ss)
-    by-test ih true t e' = let z : ◌≡◌ {A = ℕ} 0 1 = cc in absurd (omega arith)
-    by-test ih false t e' = absent_more (eqb-false _ _ t) (ih e')
+    by_test : (station_of ca ss ≡ none → Absent ca ss) → (b : Bool) → eqb x.ca ca ≡ b → pick b (some x) (station_of ca ss) ≡ none → Absent ca (x ∷ ss)
+    by_test ih true t e' = let z : ◌≡◌ {A = ℕ} 0 1 = cc in absurd (omega arith)
+    by_test ih false t e' = absent_more (eqb-false _ _ t) (ih e')
 
 -- a change stands at the station found
 pub in_split : (ca : ℕ) (f : Station → Station) (before : List Station) (s : Station) (after : List Station) → Absent ca before → s.ca ≡ ca
@@ -151,30 +151,30 @@ insert_none p = refl
 
 pub insert_length : (p : Point) (ps : List Point) → length (insert_in p ps) ≡ length ps + 1
 insert_length p [] = rw (insert_none p)
-insert_length p (q ∷ qs) = by-test (insert_length p qs) (leb p.ioa q.ioa) refl
+insert_length p (q ∷ qs) = by_test (insert_length p qs) (leb p.ioa q.ioa) refl
   where
-    by-test : length (insert_in p qs) ≡ length qs + 1 → (b : Bool) → leb p.ioa q.ioa ≡ b → length (insert_in p (q ∷ qs)) ≡ suc (length qs) + 1
-    by-test ih true t = rw (insert_first p q qs (leb-true _ _ t)) (omega arith)
-    by-test ih false t = rw (insert_later p q qs (leb-false _ _ t)) (omega arith)
+    by_test : length (insert_in p qs) ≡ length qs + 1 → (b : Bool) → leb p.ioa q.ioa ≡ b → length (insert_in p (q ∷ qs)) ≡ suc (length qs) + 1
+    by_test ih true t = rw (insert_first p q qs (leb-true _ _ t)) (omega arith)
+    by_test ih false t = rw (insert_later p q qs (leb-false _ _ t)) (omega arith)
 
 pub insert_rises : (p : Point) (low : ℕ) (ps : List Point) → low ≤ p.ioa → point_ok p ≡ true → known p.ioa ps ≡ false → rising low ps ≡ true
     → rising low (insert_in p ps) ≡ true
 unfolding rising known
 insert_rises p low [] l o k r = rw (insert_none p) (join (le-leb _ _ l) (join o refl))
 insert_rises p low (q ∷ qs) l o k r =
-    by-test (λ h e. insert_rises p (q.ioa + 1) qs h o e (both _ _ (both _ _ r).1).1) (leb p.ioa q.ioa) refl (eqb q.ioa p.ioa) refl k
+    by_test (λ h e. insert_rises p (q.ioa + 1) qs h o e (both _ _ (both _ _ r).1).1) (leb p.ioa q.ioa) refl (eqb q.ioa p.ioa) refl k
   where
-    by-test : (q.ioa + 1 ≤ p.ioa → known p.ioa qs ≡ false → rising (q.ioa + 1) (insert_in p qs) ≡ true)
+    by_test : (q.ioa + 1 ≤ p.ioa → known p.ioa qs ≡ false → rising (q.ioa + 1) (insert_in p qs) ≡ true)
         → (b : Bool) → leb p.ioa q.ioa ≡ b → (d : Bool) → eqb q.ioa p.ioa ≡ d → pick d true (known p.ioa qs) ≡ false
         → rising low (insert_in p (q ∷ qs)) ≡ true
-    by-test ih b t true u e = let z : ◌≡◌ {A = ℕ} 0 1 = cc in absurd (omega arith)
-    by-test ih true t false u e =
+    by_test ih b t true u e = let z : ◌≡◌ {A = ℕ} 0 1 = cc in absurd (omega arith)
+    by_test ih true t false u e =
         let h : p.ioa ≤ q.ioa = leb-true _ _ t in
         let n : q.ioa ≡ p.ioa → ⊥ = eqb-false _ _ u in
         let r1 = both _ _ r in
         let m : p.ioa + 1 ≤ q.ioa = omega arith in
         rw (insert_first p q qs h) (join (le-leb _ _ l) (join o (join (le-leb _ _ m) r1.1)))
-    by-test ih false t false u e =
+    by_test ih false t false u e =
         let h : q.ioa < p.ioa = leb-false _ _ t in
         let r1 = both _ _ r in
         rw (insert_later p q qs h) (join r1.0 (join (both _ _ r1.1).0 (ih (omega arith) e)))
@@ -190,8 +190,8 @@ good_added t ca p s g w o k a =
     let e : map share_of t.stations ≡ B ++ (share_of s ∷ A) = ap (map share_of) w.split ∙ shares_split w.before s w.after in
     let sound : Sound k' (B ++ (share_of s ∷ A)) = subst (Sound k') e (good_sound t g) in
     let a' : admission_in k' (B ++ (share_of s ∷ A)) (share_of s) ≡ Admitted = ap (λ (l : List Share). admission_in k' l (share_of s)) (sym e) ∙ a in
-    let taken : Sound k' (B ++ (taken_in (share_of s) ∷ A)) = take-in-keeps-sound k' B (share_of s) A sound a' in
-    let below : held s < s.ceiling = (admitted-only (share_of s) (free_of k' (B ++ (share_of s ∷ A))) (total unmet_of (B ++ (share_of s ∷ A))) a').below_ceiling in
+    let taken : Sound k' (B ++ (taken_in (share_of s) ∷ A)) = take_in_keeps_sound k' B (share_of s) A sound a' in
+    let below : held s < s.ceiling = (admitted_only (share_of s) (free_of k' (B ++ (share_of s ∷ A))) (total unmet_of (B ++ (share_of s ∷ A))) a').below_ceiling in
     let more : (taken_in (share_of s)).held ≡ held (with_points (insert_in p) s) = simp (lt-ltb _ _ below) (sym (insert_length p s.points)) in
     let one : taken_in (share_of s) ≡ share_of (with_points (insert_in p) s) =
     λ j. record { held = more j; reservation = s.reservation; ceiling = s.ceiling } in
@@ -212,12 +212,12 @@ remove_later ioa q qs n = simp (ne_eqb _ _ n)
 pub remove_length : (ioa : ℕ) (ps : List Point) → known ioa ps ≡ true → length (remove_in ioa ps) + 1 ≡ length ps
 unfolding known
 remove_length ioa [] k = let z : ◌≡◌ {A = ℕ} 0 1 = cc in absurd (omega arith)
-remove_length ioa (q ∷ qs) k = by-test (λ e. remove_length ioa qs e) (eqb q.ioa ioa) refl k
+remove_length ioa (q ∷ qs) k = by_test (λ e. remove_length ioa qs e) (eqb q.ioa ioa) refl k
   where
-    by-test : (known ioa qs ≡ true → length (remove_in ioa qs) + 1 ≡ length qs) → (b : Bool) → eqb q.ioa ioa ≡ b → pick b true (known ioa qs) ≡ true
+    by_test : (known ioa qs ≡ true → length (remove_in ioa qs) + 1 ≡ length qs) → (b : Bool) → eqb q.ioa ioa ≡ b → pick b true (known ioa qs) ≡ true
         → length (remove_in ioa (q ∷ qs)) + 1 ≡ suc (length qs)
-    by-test ih true t e = rw (remove_here ioa q qs (eqb-true _ _ t)) (omega arith)
-    by-test ih false t e = let i = ih e in rw (remove_later ioa q qs (eqb-false _ _ t)) (omega arith)
+    by_test ih true t e = rw (remove_here ioa q qs (eqb-true _ _ t)) (omega arith)
+    by_test ih false t e = let i = ih e in rw (remove_later ioa q qs (eqb-false _ _ t)) (omega arith)
 
 rising_from : (low high : ℕ) (ps : List Point) → low ≤ high → rising high ps ≡ true → rising low ps ≡ true
 unfolding rising
@@ -231,14 +231,14 @@ rising_from low high (p ∷ ps) h r =
 pub remove_rises : (ioa low : ℕ) (ps : List Point) → rising low ps ≡ true → rising low (remove_in ioa ps) ≡ true
 unfolding rising remove_in
 remove_rises ioa low [] r = refl
-remove_rises ioa low (q ∷ qs) r = by-test (remove_rises ioa (q.ioa + 1) qs (both _ _ (both _ _ r).1).1) (eqb q.ioa ioa) refl
+remove_rises ioa low (q ∷ qs) r = by_test (remove_rises ioa (q.ioa + 1) qs (both _ _ (both _ _ r).1).1) (eqb q.ioa ioa) refl
   where
-    by-test : rising (q.ioa + 1) (remove_in ioa qs) ≡ true → (b : Bool) → eqb q.ioa ioa ≡ b → rising low (pick b qs (q ∷ remove_in ioa qs)) ≡ true
-    by-test ih true t =
+    by_test : rising (q.ioa + 1) (remove_in ioa qs) ≡ true → (b : Bool) → eqb q.ioa ioa ≡ b → rising low (pick b qs (q ∷ remove_in ioa qs)) ≡ true
+    by_test ih true t =
         let r1 = both _ _ r in
         let l : low ≤ q.ioa = leb-true _ _ r1.0 in
         rising_from low (q.ioa + 1) qs (omega arith) (both _ _ r1.1).1
-    by-test ih false t = let r1 = both _ _ r in join r1.0 (join (both _ _ r1.1).0 ih)
+    by_test ih false t = let r1 = both _ _ r in join r1.0 (join (both _ _ r1.1).0 ih)
 
 -- A point let go keeps the table good.
 pub good_removed : (t : Table) (ca ioa : ℕ) (s : Station) → Good t → Found ca t.stations s → known ioa s.points ≡ true → Good (removed t ca ioa)
@@ -249,7 +249,7 @@ good_removed t ca ioa s g w k =
     let A : List Share = map share_of w.after in
     let e : map share_of t.stations ≡ B ++ (share_of s ∷ A) = ap (map share_of) w.split ∙ shares_split w.before s w.after in
     let sound : Sound k' (B ++ (share_of s ∷ A)) = subst (Sound k') e (good_sound t g) in
-    let gone : Sound k' (B ++ (let_go (share_of s) ∷ A)) = let-go-keeps-sound k' B (share_of s) A sound in
+    let gone : Sound k' (B ++ (let_go (share_of s) ∷ A)) = let_go_keeps_sound k' B (share_of s) A sound in
     let less : length (remove_in ioa s.points) + 1 ≡ held s = remove_length ioa s.points k in
     let some-held : 0 < held s = omega arith in
     let one_less : (let_go (share_of s)).held ≡ held (with_points (remove_in ioa) s) = simp (lt-ltb _ _ some-held) (omega arith) in
@@ -324,42 +324,42 @@ pub changed_station : (ca : ℕ) (f : List Point → List Point) (ss : List Stat
     → station_of ca (in_station ca (with_points f) ss) ≡ some (with_points f s)
 unfolding station_of in_station
 changed_station ca f [] s e = let z : ◌≡◌ {A = ℕ} 0 1 = cc in absurd (omega arith)
-changed_station ca f (x ∷ ss) s e = by-test (λ r. changed_station ca f ss s r) (eqb x.ca ca) refl e
+changed_station ca f (x ∷ ss) s e = by_test (λ r. changed_station ca f ss s r) (eqb x.ca ca) refl e
   where
-    by-test : (station_of ca ss ≡ some s → station_of ca (in_station ca (with_points f) ss) ≡ some (with_points f s))
+    by_test : (station_of ca ss ≡ some s → station_of ca (in_station ca (with_points f) ss) ≡ some (with_points f s))
         → (b : Bool) → eqb x.ca ca ≡ b → pick b (some x) (station_of ca ss) ≡ some s
         → station_of ca (pick b (with_points f x ∷ ss) (x ∷ in_station ca (with_points f) ss)) ≡ some (with_points f s)
-    by-test ih true t e' = let q : x ≡ s = cc in simp t (ap (λ (y : Station). some (with_points f y)) q)
-    by-test ih false t e' = simp t (ih e')
+    by_test ih true t e' = let q : x ≡ s = cc in simp t (ap (λ (y : Station). some (with_points f y)) q)
+    by_test ih false t e' = simp t (ih e')
 
 -- Every other station is as it was.
 pub other_station : (ca other : ℕ) (f : List Point → List Point) (ss : List Station) → (ca ≡ other → ⊥)
     → station_of other (in_station ca (with_points f) ss) ≡ station_of other ss
 unfolding station_of in_station
 other_station ca other f [] n = refl
-other_station ca other f (x ∷ ss) n = by-test (other_station ca other f ss n) (eqb x.ca ca) refl (eqb x.ca other) refl
+other_station ca other f (x ∷ ss) n = by_test (other_station ca other f ss n) (eqb x.ca ca) refl (eqb x.ca other) refl
   where
-    by-test : station_of other (in_station ca (with_points f) ss) ≡ station_of other ss
+    by_test : station_of other (in_station ca (with_points f) ss) ≡ station_of other ss
         → (b : Bool) → eqb x.ca ca ≡ b → (d : Bool) → eqb x.ca other ≡ d
         → station_of other (pick b (with_points f x ∷ ss) (x ∷ in_station ca (with_points f) ss)) ≡ pick d (some x) (station_of other ss)
-    by-test ih true t true u =
+    by_test ih true t true u =
         let p : x.ca ≡ ca = eqb-true _ _ t in
         let q : x.ca ≡ other = eqb-true _ _ u in
         absurd (n (sym p ∙ q))
-    by-test ih true t false u = simp u
-    by-test ih false t true u = simp u
-    by-test ih false t false u = simp u ih
+    by_test ih true t false u = simp u
+    by_test ih false t true u = simp u
+    by_test ih false t false u = simp u ih
 
 -- One more point is known, and what was known stays so.
 pub known_insert : (p : Point) (ioa : ℕ) (ps : List Point) → known ioa (insert_in p ps) ≡ pick (eqb p.ioa ioa) true (known ioa ps)
 unfolding known
 known_insert p ioa [] = rw (insert_none p)
-known_insert p ioa (q ∷ qs) = by-test (known_insert p ioa qs) (leb p.ioa q.ioa) refl (eqb p.ioa ioa) refl (eqb q.ioa ioa) refl
+known_insert p ioa (q ∷ qs) = by_test (known_insert p ioa qs) (leb p.ioa q.ioa) refl (eqb p.ioa ioa) refl (eqb q.ioa ioa) refl
   where
-    by-test : known ioa (insert_in p qs) ≡ pick (eqb p.ioa ioa) true (known ioa qs)
+    by_test : known ioa (insert_in p qs) ≡ pick (eqb p.ioa ioa) true (known ioa qs)
         → (b : Bool) → leb p.ioa q.ioa ≡ b → (d : Bool) → eqb p.ioa ioa ≡ d → (e : Bool) → eqb q.ioa ioa ≡ e
         → known ioa (insert_in p (q ∷ qs)) ≡ pick d true (pick e true (known ioa qs))
-    by-test ih true t d u e v = rw (insert_first p q qs (leb-true _ _ t)) (simp (u, v))
-    by-test ih false t true u true v = rw (insert_later p q qs (leb-false _ _ t)) (simp v)
-    by-test ih false t true u false v = rw (insert_later p q qs (leb-false _ _ t)) (simp v (ih ∙ simp u))
-    by-test ih false t false u e v = rw (insert_later p q qs (leb-false _ _ t)) (simp (v, ih, u))
+    by_test ih true t d u e v = rw (insert_first p q qs (leb-true _ _ t)) (simp (u, v))
+    by_test ih false t true u true v = rw (insert_later p q qs (leb-false _ _ t)) (simp v)
+    by_test ih false t true u false v = rw (insert_later p q qs (leb-false _ _ t)) (simp v (ih ∙ simp u))
+    by_test ih false t false u e v = rw (insert_later p q qs (leb-false _ _ t)) (simp (v, ih, u))

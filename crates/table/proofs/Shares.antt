@@ -14,11 +14,11 @@ use Rattle.table.proofs.Parse.{Good}
 
 -- A station's unmet room is that of its share.
 pub unmet_share : (s : Station) → unmet_of (share_of s) ≡ unmet s
-unmet_share s = by-test (ltb (held s) s.reservation) refl
+unmet_share s = by_test (ltb (held s) s.reservation) refl
   where
-    by-test : (b : Bool) → ltb (held s) s.reservation ≡ b → pick b (s.reservation - held s) 0 ≡ s.reservation - held s
-    by-test true e = refl
-    by-test false e = let h : s.reservation ≤ held s = ltb-false _ _ e in omega arith
+    by_test : (b : Bool) → ltb (held s) s.reservation ≡ b → pick b (s.reservation - held s) 0 ≡ s.reservation - held s
+    by_test true e = refl
+    by_test false e = let h : s.reservation ≤ held s = ltb-false _ _ e in omega arith
 
 -- What the shares hold, added up, is what the stations hold.
 pub total_held : (ss : List Station) → total held_of (map share_of ss) ≡ total held ss

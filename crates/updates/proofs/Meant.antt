@@ -33,25 +33,25 @@ use Rattle.updates.specs.Updates.{target_on, target_in, target_at}
 -- ---- bounds of what is found in a well_formed_lem memory
 
 module _ (m : List ℕ) (w : well_formed m ≡ true) where
-  pub table-bounds : (two m 6 ≤ 64) × (64 + 48 * two m 4 + 8 * two m 6 ≤ length m)
-  table-bounds = let p = passed m w in (p.top.s_high, p.top.room)
+  pub table_bounds : (two m 6 ≤ 64) × (64 + 48 * two m 4 + 8 * two m 6 ≤ length m)
+  table_bounds = let p = passed m w in (p.top.s_high, p.top.room)
 
   module _ (o : Octets m) (ca i first h : ℕ) (e : seat_at m ca ≡ Here i first h) where
-    pub seat-bounds : first + 48 * h ≤ length m
-    seat-bounds =
+    pub seat_bounds : first + 48 * h ≤ length m
+    seat_bounds =
         let p = passed m w in
         let few : two m 8 ≤ two m 4 = p.few in
         let room : 64 + 48 * two m 4 + 8 * two m 6 ≤ length m = p.top.room in
         let places : first + 48 * h ≤ 64 + 48 * two m 8 = (seat_law m ca i first h o w e).places in
         omega arith
 
-    pub spot-law : (ioa at : ℕ) → find_at m first h ioa ≡ Held at → HeldAt m first h ioa at (points_at m first h)
-    spot-law ioa at f =
+    pub spot_law : (ioa at : ℕ) → find_at m first h ioa ≡ Held at → HeldAt m first h ioa at (points_at m first h)
+    spot_law ioa at f =
         let seen : Seen m ca i first h = seat_law m ca i first h o w e in
         held_law m first h ioa at (ap (rising 0) seen.points ∙ seen.rises) f
 
-    pub held-bounds : (ioa at : ℕ) → find_at m first h ioa ≡ Held at → at + 48 ≤ length m
-    held-bounds ioa at f = let b = seat-bounds in let k = (spot-law ioa at f).inside in omega arith
+    pub held_bounds : (ioa at : ℕ) → find_at m first h ioa ≡ Held at → at + 48 ≤ length m
+    held_bounds ioa at f = let b = seat_bounds in let k = (spot_law ioa at f).inside in omega arith
 
 -- ---- the point that is meant
 
@@ -70,21 +70,21 @@ pub record Targeted (m : List ℕ) (u : Update) (at : ℕ) : Type 0 where
 unknown_none : (ioa : ℕ) (ps : List Point) → known ioa ps ≡ false → point_in ioa ps ≡ none
 unfolding known point_in
 unknown_none ioa [] k = refl
-unknown_none ioa (q ∷ qs) k = by-test (eqb q.ioa ioa) k (λ f. unknown_none ioa qs f)
+unknown_none ioa (q ∷ qs) k = by_test (eqb q.ioa ioa) k (λ f. unknown_none ioa qs f)
   where
-    by-test : (b : Bool) → pick b true (known ioa qs) ≡ false → (known ioa qs ≡ false → point_in ioa qs ≡ none) → pick b (some q) (point_in ioa qs) ≡ none
-    by-test true f again = let z : ◌≡◌ {A = ℕ} 0 1 = cc in absurd (omega arith)
-    by-test false f again = again f
+    by_test : (b : Bool) → pick b true (known ioa qs) ≡ false → (known ioa qs ≡ false → point_in ioa qs ≡ none) → pick b (some q) (point_in ioa qs) ≡ none
+    by_test true f again = let z : ◌≡◌ {A = ℕ} 0 1 = cc in absurd (omega arith)
+    by_test false f again = again f
 
 module _ (m : List ℕ) (u : Update) (o : Octets m) (w : well_formed m ≡ true) where
   -- the station planned, and a point at the address
   module _ (i first h : ℕ) (e : seat_at m u.ca ≡ Here i first h) (a : ℕ) (f : find_at m first h u.ioa ≡ Held a) where
-    found-update : station_of u.ca (table_of m).stations ≡ some (seat_law m u.ca i first h o w e).seat.s
+    found_update : station_of u.ca (table_of m).stations ≡ some (seat_law m u.ca i first h o w e).seat.s
         → update_of (table_of m) u ≡ updated u (some (point_at m a))
-    found-update is =
+    found_update is =
         let seen : Seen m u.ca i first h = seat_law m u.ca i first h o w e in
         let q : point_in u.ioa seen.seat.s.points ≡ some (point_at m a) =
-        ap (point_in u.ioa) (sym seen.points) ∙ (spot-law m w o u.ca i first h e u.ioa a f).is_point in
+        ap (point_in u.ioa) (sym seen.points) ∙ (spot_law m w o u.ca i first h e u.ioa a f).is_point in
         ap (λ (x : Option Station). updated u (point_in u.ioa (points_of x))) is ∙ ap (updated u) q
 
     place_found : eqb (get_or m a 0) u.kind ≡ true → Targeted m u a
@@ -92,7 +92,7 @@ module _ (m : List ℕ) (u : Update) (o : Octets m) (w : well_formed m ≡ true)
     place_found k =
         let seen : Seen m u.ca i first h = seat_law m u.ca i first h o w e in
         let d : Seated (table_of m).stations u.ca 0 64 i first h = seen.seat in
-        let s : HeldAt m first h u.ioa a (points_at m first h) = spot-law m w o u.ca i first h e u.ioa a f in
+        let s : HeldAt m first h u.ioa a (points_at m first h) = spot_law m w o u.ca i first h e u.ioa a f in
         let y : first ≡ 64 + 48 * total held d.found.before = d.place in
         let x : a ≡ first + 48 * seek_in u.ioa d.s.points = s.place ∙ ap (λ (ps : List Point). first + 48 * seek_in u.ioa ps) seen.points in
         record {
@@ -102,13 +102,13 @@ module _ (m : List ℕ) (u : Update) (o : Octets m) (w : well_formed m ≡ true)
           is_point = ap (point_in u.ioa) (sym seen.points) ∙ s.is_point;
           is_kind = eqb-true _ _ k;
           place = omega arith;
-          inside = held-bounds m w o u.ca i first h e u.ioa a f;
-          update = found-update d.is_station ∙ simp k;
+          inside = held_bounds m w o u.ca i first h e u.ioa a f;
+          update = found_update d.is_station ∙ simp k;
         }
 
-    other-kind : eqb (get_or m a 0) u.kind ≡ false → update_of (table_of m) u ≡ none
+    other_kind : eqb (get_or m a 0) u.kind ≡ false → update_of (table_of m) u ≡ none
     unfolding updated
-    other-kind k = found-update (seat_law m u.ca i first h o w e).seat.is_station ∙ simp k
+    other_kind k = found_update (seat_law m u.ca i first h o w e).seat.is_station ∙ simp k
 
   -- no point at the address
   module _ (i first h : ℕ) (e : seat_at m u.ca ≡ Here i first h) (a : ℕ) (f : find_at m first h u.ioa ≡ Missing a) where
@@ -126,57 +126,57 @@ module _ (m : List ℕ) (u : Update) (o : Octets m) (w : well_formed m ≡ true)
   no_station e = ap (λ (x : Option Station). updated u (point_in u.ioa (points_of x))) (absent_law m u.ca e)
 
   -- A place: the update changes the point there.
-  pub target-place : (at : ℕ) → target_at m u ≡ Place at → Targeted m u at
+  pub target_place : (at : ℕ) → target_at m u ≡ Place at → Targeted m u at
   unfolding target_at
-  target-place at e = of-seat (seat_at m u.ca) refl e
+  target_place at e = of_seat (seat_at m u.ca) refl e
     where
-      of-kind : (i first h : ℕ) → seat_at m u.ca ≡ Here i first h → (a : ℕ) → find_at m first h u.ioa ≡ Held a
+      of_kind_lem : (i first h : ℕ) → seat_at m u.ca ≡ Here i first h → (a : ℕ) → find_at m first h u.ioa ≡ Held a
           → (b : Bool) → eqb (get_or m a 0) u.kind ≡ b → pick b (Place a) Skipped ≡ Place at → Targeted m u at
-      of-kind i first h p a q true k f = let z : a ≡ at = cc in subst (λ (x : ℕ). Targeted m u x) z (place_found i first h p a q k)
-      of-kind i first h p a q false k f = let z : ◌≡◌ {A = ℕ} 0 1 = cc in absurd (omega arith)
+      of_kind_lem i first h p a q true k f = let z : a ≡ at = cc in subst (λ (x : ℕ). Targeted m u x) z (place_found i first h p a q k)
+      of_kind_lem i first h p a q false k f = let z : ◌≡◌ {A = ℕ} 0 1 = cc in absurd (omega arith)
 
-      of-spot : (i first h : ℕ) → seat_at m u.ca ≡ Here i first h → (x : Spot) → find_at m first h u.ioa ≡ x → target_on m u x ≡ Place at → Targeted m u at
-      of-spot i first h p (Held a) q f = of-kind i first h p a q (eqb (get_or m a 0) u.kind) refl f
-      of-spot i first h p (Missing a) q f = let z : ◌≡◌ {A = ℕ} 0 1 = cc in absurd (omega arith)
+      of_spot : (i first h : ℕ) → seat_at m u.ca ≡ Here i first h → (x : Spot) → find_at m first h u.ioa ≡ x → target_on m u x ≡ Place at → Targeted m u at
+      of_spot i first h p (Held a) q f = of_kind_lem i first h p a q (eqb (get_or m a 0) u.kind) refl f
+      of_spot i first h p (Missing a) q f = let z : ◌≡◌ {A = ℕ} 0 1 = cc in absurd (omega arith)
 
-      of-seat : (x : Seat) → seat_at m u.ca ≡ x → target_in m u x ≡ Place at → Targeted m u at
-      of-seat (Here i first h) p f = of-spot i first h p (find_at m first h u.ioa) refl f
-      of-seat NotPlanned p f = let z : ◌≡◌ {A = ℕ} 0 1 = cc in absurd (omega arith)
+      of_seat : (x : Seat) → seat_at m u.ca ≡ x → target_in m u x ≡ Place at → Targeted m u at
+      of_seat (Here i first h) p f = of_spot i first h p (find_at m first h u.ioa) refl f
+      of_seat NotPlanned p f = let z : ◌≡◌ {A = ℕ} 0 1 = cc in absurd (omega arith)
 
   -- Skipped: it changes nothing.
-  pub target-skipped : target_at m u ≡ Skipped → update_of (table_of m) u ≡ none
+  pub target_skipped : target_at m u ≡ Skipped → update_of (table_of m) u ≡ none
   unfolding target_at
-  target-skipped e = of-seat (seat_at m u.ca) refl e
+  target_skipped e = of_seat (seat_at m u.ca) refl e
     where
-      of-kind : (i first h : ℕ) → seat_at m u.ca ≡ Here i first h → (a : ℕ) → find_at m first h u.ioa ≡ Held a
+      of_kind_lem : (i first h : ℕ) → seat_at m u.ca ≡ Here i first h → (a : ℕ) → find_at m first h u.ioa ≡ Held a
           → (b : Bool) → eqb (get_or m a 0) u.kind ≡ b → pick b (Place a) Skipped ≡ Skipped → update_of (table_of m) u ≡ none
-      of-kind i first h p a q true k f = let z : ◌≡◌ {A = ℕ} 0 1 = cc in absurd (omega arith)
-      of-kind i first h p a q false k f = other-kind i first h p a q k
+      of_kind_lem i first h p a q true k f = let z : ◌≡◌ {A = ℕ} 0 1 = cc in absurd (omega arith)
+      of_kind_lem i first h p a q false k f = other_kind i first h p a q k
 
-      of-spot : (i first h : ℕ) → seat_at m u.ca ≡ Here i first h → (x : Spot) → find_at m first h u.ioa ≡ x → target_on m u x ≡ Skipped → update_of (table_of m) u ≡ none
-      of-spot i first h p (Held a) q f = of-kind i first h p a q (eqb (get_or m a 0) u.kind) refl f
-      of-spot i first h p (Missing a) q f = no_point i first h p a q
+      of_spot : (i first h : ℕ) → seat_at m u.ca ≡ Here i first h → (x : Spot) → find_at m first h u.ioa ≡ x → target_on m u x ≡ Skipped → update_of (table_of m) u ≡ none
+      of_spot i first h p (Held a) q f = of_kind_lem i first h p a q (eqb (get_or m a 0) u.kind) refl f
+      of_spot i first h p (Missing a) q f = no_point i first h p a q
 
-      of-seat : (x : Seat) → seat_at m u.ca ≡ x → target_in m u x ≡ Skipped → update_of (table_of m) u ≡ none
-      of-seat (Here i first h) p f = of-spot i first h p (find_at m first h u.ioa) refl f
-      of-seat NotPlanned p f = no_station p
+      of_seat : (x : Seat) → seat_at m u.ca ≡ x → target_in m u x ≡ Skipped → update_of (table_of m) u ≡ none
+      of_seat (Here i first h) p f = of_spot i first h p (find_at m first h u.ioa) refl f
+      of_seat NotPlanned p f = no_station p
 
 -- ---- the target as the code finds it
 
 module _ (m : List ℕ) (u : Update) where
-  pub target-unplanned : seat_at m u.ca ≡ NotPlanned → Skipped ≡ target_at m u
+  pub target_unplanned : seat_at m u.ca ≡ NotPlanned → Skipped ≡ target_at m u
   unfolding target_at
-  target-unplanned e = sym (ap (target_in m u) e)
+  target_unplanned e = sym (ap (target_in m u) e)
 
   module _ (i first h : ℕ) (e : seat_at m u.ca ≡ Here i first h) where
-    pub target-missing : (a : ℕ) → find_at m first h u.ioa ≡ Missing a → Skipped ≡ target_at m u
+    pub target_missing : (a : ℕ) → find_at m first h u.ioa ≡ Missing a → Skipped ≡ target_at m u
     unfolding target_at
-    target-missing a f = sym (ap (target_in m u) e ∙ ap (target_on m u) f)
+    target_missing a f = sym (ap (target_in m u) e ∙ ap (target_on m u) f)
 
-    pub target-other : (a : ℕ) → find_at m first h u.ioa ≡ Held a → (get_or m a 0 ≡ u.kind → ⊥) → Skipped ≡ target_at m u
+    pub target_other : (a : ℕ) → find_at m first h u.ioa ≡ Held a → (get_or m a 0 ≡ u.kind → ⊥) → Skipped ≡ target_at m u
     unfolding target_at
-    target-other a f n = sym (ap (target_in m u) e ∙ ap (target_on m u) f ∙ simp (ne_eqb _ _ n))
+    target_other a f n = sym (ap (target_in m u) e ∙ ap (target_on m u) f ∙ simp (ne_eqb _ _ n))
 
-    pub target-here : (a : ℕ) → find_at m first h u.ioa ≡ Held a → get_or m a 0 ≡ u.kind → Place a ≡ target_at m u
+    pub target_here : (a : ℕ) → find_at m first h u.ioa ≡ Held a → get_or m a 0 ≡ u.kind → Place a ≡ target_at m u
     unfolding target_at
-    target-here a f k = sym (ap (target_in m u) e ∙ ap (target_on m u) f ∙ simp (eq-eqb _ _ k))
+    target_here a f k = sym (ap (target_in m u) e ∙ ap (target_on m u) f ∙ simp (eq-eqb _ _ k))

@@ -17,7 +17,7 @@ use Rattle.answers.specs.Said.{size}
 use Rattle.answers.specs.Process.{Update, updated, update_of, table_with, told_of, told_by, addressed, revalued}
 use Rattle.answers.proofs.Quiet.{AllWhole}
 use Rattle.updates.specs.Values.{renewed_by, each}
-use Rattle.updates.proofs.Values.{one_keeps, update-point}
+use Rattle.updates.proofs.Values.{one_keeps, update_point}
 use Rattle.updates.proofs.Told.{length_told}
 
 -- The octets that updates tell, each of them asked of one table.
@@ -44,17 +44,17 @@ size_by u (some kind) = pick (eqb kind u.kind) (9 + point_octets kind) 0
 size_by_lem : (u : Update) (o : Option Point) → length u.value ≡ 12 → size (told_of u (updated u o)) ≡ size_by u (type_of o)
 unfolding updated told_of type_of size_by
 size_by_lem u none l = ap length wire_none
-size_by_lem u (some q) l = by-test (eqb q.kind u.kind)
+size_by_lem u (some q) l = by_test (eqb q.kind u.kind)
   where
-    by-test : (b : Bool) → size (told_of u (pick b (some (revalued q u.value)) none)) ≡ pick b (9 + point_octets q.kind) 0
-    by-test true = length_told u q l
-    by-test false = ap length wire_none
+    by_test : (b : Bool) → size (told_of u (pick b (some (revalued q u.value)) none)) ≡ pick b (9 + point_octets q.kind) 0
+    by_test true = length_told u q l
+    by_test false = ap length wire_none
 
 size_stays : (t : Table) (u v : Update) → length v.value ≡ 12
     → size (told_of v (update_of (table_with t u (update_of t u)) v)) ≡ size (told_of v (update_of t v))
 size_stays t u v l =
     size_by_lem v (addressed (table_with t u (update_of t u)) v.ca v.ioa) l
-    ∙ ap (λ (o : Option Point). size_by v (type_of o)) (update-point t u v.ca v.ioa)
+    ∙ ap (λ (o : Option Point). size_by v (type_of o)) (update_point t u v.ca v.ioa)
     ∙ ap (size_by v) (type_stays u v.ca (addressed t v.ca v.ioa))
     ∙ sym (size_by_lem v (addressed t v.ca v.ioa) l)
 

@@ -102,14 +102,14 @@ none_replaced p low (q ∷ qs) h r =
 found_from : (ioa low : ℕ) (ps : List Point) (q : Point) → rising low ps ≡ true → point_in ioa ps ≡ some q → low ≤ ioa
 unfolding rising point_in
 found_from ioa low [] q r e = let z : ◌≡◌ {A = ℕ} 0 1 = cc in absurd (omega arith)
-found_from ioa low (x ∷ xs) q r e = by-test (eqb x.ioa ioa) refl e (λ f. found_from ioa (x.ioa + 1) xs q (both _ _ (both _ _ r).1).1 f)
+found_from ioa low (x ∷ xs) q r e = by_test (eqb x.ioa ioa) refl e (λ f. found_from ioa (x.ioa + 1) xs q (both _ _ (both _ _ r).1).1 f)
   where
-    by-test : (b : Bool) → eqb x.ioa ioa ≡ b → pick b (some x) (point_in ioa xs) ≡ some q → (point_in ioa xs ≡ some q → x.ioa + 1 ≤ ioa) → low ≤ ioa
-    by-test true t f again =
+    by_test : (b : Bool) → eqb x.ioa ioa ≡ b → pick b (some x) (point_in ioa xs) ≡ some q → (point_in ioa xs ≡ some q → x.ioa + 1 ≤ ioa) → low ≤ ioa
+    by_test true t f again =
         let l : low ≤ x.ioa = leb-true _ _ (both _ _ r).0 in
         let i : x.ioa ≡ ioa = eqb-true _ _ t in
         omega arith
-    by-test false t f again =
+    by_test false t f again =
         let l : low ≤ x.ioa = leb-true _ _ (both _ _ r).0 in
         let i = again f in
         omega arith
@@ -117,10 +117,10 @@ found_from ioa low (x ∷ xs) q r e = by-test (eqb x.ioa ioa) refl e (λ f. foun
 pub parted : (ioa low : ℕ) (ps : List Point) (q : Point) → rising low ps ≡ true → point_in ioa ps ≡ some q → Parted ioa ps q
 unfolding rising point_in seek_in replace_in
 parted ioa low [] q r e = let z : ◌≡◌ {A = ℕ} 0 1 = cc in absurd (omega arith)
-parted ioa low (x ∷ xs) q r e = by-test (eqb x.ioa ioa) refl e (λ f. parted ioa (x.ioa + 1) xs q (both _ _ (both _ _ r).1).1 f)
+parted ioa low (x ∷ xs) q r e = by_test (eqb x.ioa ioa) refl e (λ f. parted ioa (x.ioa + 1) xs q (both _ _ (both _ _ r).1).1 f)
   where
-    by-test : (b : Bool) → eqb x.ioa ioa ≡ b → pick b (some x) (point_in ioa xs) ≡ some q → (point_in ioa xs ≡ some q → Parted ioa xs q) → Parted ioa (x ∷ xs) q
-    by-test true t f again =
+    by_test : (b : Bool) → eqb x.ioa ioa ≡ b → pick b (some x) (point_in ioa xs) ≡ some q → (point_in ioa xs ≡ some q → Parted ioa xs q) → Parted ioa (x ∷ xs) q
+    by_test true t f again =
         let s : x ≡ q = cc in
         let i : x.ioa ≡ ioa = eqb-true _ _ t in
         let l : ioa ≤ x.ioa = omega arith in
@@ -135,7 +135,7 @@ parted ioa low (x ∷ xs) q r e = by-test (eqb x.ioa ioa) refl e (λ f. parted i
               let h : p.ioa < x.ioa + 1 = omega arith in
               simp (eq-eqb _ _ n) (ap (λ (l : List Point). p ∷ l) (none_replaced p (x.ioa + 1) xs h (both _ _ (both _ _ r).1).1));
         }
-    by-test false t f again =
+    by_test false t f again =
         let w = again f in
         let l : x.ioa + 1 ≤ ioa = found_from ioa (x.ioa + 1) xs q (both _ _ (both _ _ r).1).1 f in
         let l' : x.ioa < ioa = omega arith in
@@ -179,22 +179,22 @@ module _ (t : Table) (before : List Station) (s : Station) (behind : List Statio
   rear : List ℕ
   rear = bodies behind ++ (replicate (place_size * (t.capacity - n)) 0 ++ (entries before ++ (eight s.ca s.reservation s.ceiling (held s) ++ (entries behind ++ rest))))
 
-  cut-old : image (with_stations (before ++ (s ∷ behind)) t) ++ rest
+  cut_old : image (with_stations (before ++ (s ∷ behind)) t) ++ rest
       ≡ head t.settings t.capacity (length before + suc (length behind)) n ++ (bodies before
       ++ ((places_of s.ca w.below ++ ((ten s.ca q ++ (take size q.value ++ after size)) ++ places_of s.ca w.above)) ++ rear))
   unfolding size rear
-  cut-old =
+  cut_old =
       let S : ℕ = length before + suc (length behind) in
       let ps = ap (places_of s.ca) w.split ∙ places_at_lem s.ca w.below q w.above in
       image_at t before s behind n rest count
       ∙ ap (λ (l : List ℕ). head t.settings t.capacity S n ++ (bodies before ++ (l ++ rear))) ps
       ∙ ap (λ (l : List ℕ). head t.settings t.capacity S n ++ (bodies before ++ ((places_of s.ca w.below ++ (l ++ places_of s.ca w.above)) ++ rear))) (old_place s.ca q w.is_ok)
 
-  cut-new : image (with_stations (before ++ (with_points (replace_in (revalued q v)) s ∷ behind)) t) ++ rest
+  cut_new : image (with_stations (before ++ (with_points (replace_in (revalued q v)) s ∷ behind)) t) ++ rest
       ≡ head t.settings t.capacity (length before + suc (length behind)) n ++ (bodies before
       ++ ((places_of s.ca w.below ++ ((ten s.ca q ++ (take size v ++ after size)) ++ places_of s.ca w.above)) ++ rear))
   unfolding size rear
-  cut-new =
+  cut_new =
       let S : ℕ = length before + suc (length behind) in
       let p : Point = revalued q v in
       let s' : Station = with_points (replace_in p) s in
@@ -222,16 +222,16 @@ module _ (t : Table) (before : List Station) (s : Station) (behind : List Statio
       let lb : length (bodies before) ≡ 48 * total held before = length_bodies before in
       let lp : length (places_of s.ca w.below) ≡ 48 * length w.below = length_places s.ca w.below in
       let so : seek_in ioa s.points ≡ length w.below = w.sought in
-      ap (λ (l : List ℕ). over l (at + 10) (take size v)) cut-old
+      ap (λ (l : List ℕ). over l (at + 10) (take size v)) cut_old
       ∙ write_at (head t.settings t.capacity S n) (bodies before) (places_of s.ca w.below) (ten s.ca q) (take size q.value) (after size) (places_of s.ca w.above) rear
       (take size v) (at + 10) (omega arith) (omega arith)
-      ∙ sym cut-new
+      ∙ sym cut_new
 
   -- the point at the place is then the one with the new value
-  stored-read : (at : ℕ) → at ≡ 64 + 48 * (total held before + seek_in ioa s.points)
+  stored_read : (at : ℕ) → at ≡ 64 + 48 * (total held before + seek_in ioa s.points)
       → point_at (image (with_stations (before ++ (with_points (replace_in (revalued q v)) s ∷ behind)) t) ++ rest) at ≡ revalued q v
   unfolding size
-  stored-read at e =
+  stored_read at e =
       let S : ℕ = length before + suc (length behind) in
       let p : Point = revalued q v in
       let M : List ℕ = image (with_stations (before ++ (with_points (replace_in p) s ∷ behind)) t) ++ rest in
@@ -240,7 +240,7 @@ module _ (t : Table) (before : List Station) (s : Station) (behind : List Statio
       let lp : length (places_of s.ca w.below) ≡ 48 * length w.below = length_places s.ca w.below in
       let so : seek_in ioa s.points ≡ length w.below = w.sought in
       let d : drop at M ≡ place_of s.ca p ++ (Q ++ rear) =
-      ap (drop at) cut-new
+      ap (drop at) cut_new
       ∙ read_at (head t.settings t.capacity S n) (bodies before) (places_of s.ca w.below) (ten s.ca q ++ (take size v ++ after size)) Q rear at (omega arith)
       ∙ ap (λ (l : List ℕ). l ++ (Q ++ rear)) (sym (new_place s.ca q v long)) in
       at_drop M at
@@ -261,5 +261,5 @@ stored_image t rest ca ioa s f q v at r e i l p =
           ∙ stored_cut t f.before s f.after (total held t.stations) rest ioa q v count w i l at p
           ∙ (λ j. image (with_stations (sym (stations_split t ca (replace_in (revalued q v)) s f) j) t) ++ rest),
       (λ j. point_at (image (with_stations (stations_split t ca (replace_in (revalued q v)) s f j) t) ++ rest) at)
-          ∙ stored-read t f.before s f.after (total held t.stations) rest ioa q v count w i l at p,
+          ∙ stored_read t f.before s f.after (total held t.stations) rest ioa q v count w i l at p,
     )

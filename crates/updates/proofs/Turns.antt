@@ -29,7 +29,7 @@ use Rattle.answers.proofs.Values.{point_in_lem}
 use Rattle.answers.proofs.Quiet.{updates_whole, update_still}
 use Rattle.updates.specs.declared.Target.TheVariants.{Place, Skipped}
 use Rattle.updates.specs.Updates.{target_at, stored, told_one, left_one, told_by_all, left_by_all, Applies}
-use Rattle.updates.proofs.Meant.{target-place, target-skipped}
+use Rattle.updates.proofs.Meant.{target_place, target_skipped}
 use Rattle.updates.proofs.Stored.{stored_image}
 use Rattle.updates.proofs.Told.{element_part, length_told}
 use Rattle.updates.proofs.Sizes.{octets_told, length_told_by}
@@ -38,37 +38,37 @@ use Rattle.updates.proofs.Sizes.{octets_told, length_told_by}
 
 module _ (m us : List ℕ) (at : ℕ) (o : Octets m) (w : well_formed m ≡ true) where
   -- Skipped: nothing is told, and the memory is as it was.
-  pub skipped-told : target_at m (update_at us at) ≡ Skipped → told_one m us at ≡ []
+  pub skipped_told : target_at m (update_at us at) ≡ Skipped → told_one m us at ≡ []
   unfolding told_of
-  skipped-told e = ap (λ (x : Option Point). wire (told_of (update_at us at) x)) (target-skipped m (update_at us at) o w e) ∙ wire_none
+  skipped_told e = ap (λ (x : Option Point). wire (told_of (update_at us at) x)) (target_skipped m (update_at us at) o w e) ∙ wire_none
 
-  pub skipped-left : target_at m (update_at us at) ≡ Skipped → m ≡ left_one m us at
+  pub skipped_left : target_at m (update_at us at) ≡ Skipped → m ≡ left_one m us at
   unfolding table_with
-  skipped-left e =
-      printed m o (passed m w) ∙ ap (λ (x : Option Point). holding m (table_of m) (table_with (table_of m) (update_at us at) x)) (sym (target-skipped m (update_at us at) o w e))
+  skipped_left e =
+      printed m o (passed m w) ∙ ap (λ (x : Option Point). holding m (table_of m) (table_with (table_of m) (update_at us at) x)) (sym (target_skipped m (update_at us at) o w e))
 
   module _ (place : ℕ) (e : target_at m (update_at us at) ≡ Place place) where
     -- The place lies in the memory.
     pub place_inside : place + 48 ≤ length m
-    place_inside = (target-place m (update_at us at) o w place e).inside
+    place_inside = (target_place m (update_at us at) o w place e).inside
 
     found_ioa : (point_at m place).ioa ≡ three us (at + 2)
-    found_ioa = let d = target-place m (update_at us at) o w place e in (point_in_lem 0 (update_at us at).ioa d.station.points (point_at m place) d.rises d.is_point).1
+    found_ioa = let d = target_place m (update_at us at) o w place e in (point_in_lem 0 (update_at us at).ioa d.station.points (point_at m place) d.rises d.is_point).1
 
     -- So many octets are told.
-    pub place-length : length (told_one m us at) ≡ 9 + point_octets (get_or us (at + update_type_offset) 0)
-    place-length =
-        let d = target-place m (update_at us at) o w place e in
+    pub place_length : length (told_one m us at) ≡ 9 + point_octets (get_or us (at + update_type_offset) 0)
+    place_length =
+        let d = target_place m (update_at us at) o w place e in
         ap (λ (x : Option Point). size (told_of (update_at us at) x)) d.update
         ∙ length_told (update_at us at) (point_at m place) refl
         ∙ ap (λ (k : ℕ). 9 + point_octets k) d.is_kind
 
     -- What is stored leaves the image of the table with the new value, and the point at the place is the one that is told.
-    stored-both : at + update_octets ≤ length us → (stored m place (get_or us (at + update_type_offset) 0) us (at + update_value_offset) ≡ left_one m us at)
+    stored_both : at + update_octets ≤ length us → (stored m place (get_or us (at + update_type_offset) 0) us (at + update_value_offset) ≡ left_one m us at)
         × (point_at (stored m place (get_or us (at + update_type_offset) 0) us (at + update_value_offset)) place ≡ revalued (point_at m place) (update_at us at).value)
     unfolding stored table_with
-    stored-both h =
-        let d = target-place m (update_at us at) o w place e in
+    stored_both h =
+        let d = target_place m (update_at us at) o w place e in
         let t : Table = table_of m in
         let q : Point = point_at m place in
         let v : List ℕ = (update_at us at).value in
@@ -80,15 +80,15 @@ module _ (m us : List ℕ) (at : ℕ) (o : Octets m) (w : well_formed m ≡ true
         let s = ap₂ (λ (y z : List ℕ). over y (place + 10) z) (printed m o (passed m w)) x ∙ b.0 in
         (s ∙ ap (λ (y : Option Point). holding m t (table_with t (update_at us at) y)) (sym d.update), ap (λ (y : List ℕ). point_at y place) s ∙ b.1)
 
-    pub place-left : at + update_octets ≤ length us → stored m place (get_or us (at + update_type_offset) 0) us (at + update_value_offset) ≡ left_one m us at
-    place-left h = (stored-both h).0
+    pub place_left : at + update_octets ≤ length us → stored m place (get_or us (at + update_type_offset) 0) us (at + update_value_offset) ≡ left_one m us at
+    place_left h = (stored_both h).0
 
-    pub place-told : at + update_octets ≤ length us
+    pub place_told : at + update_octets ≤ length us
         → asdu_octets (single spontaneous (two us at) (point_at (stored m place (get_or us (at + update_type_offset) 0) us (at + update_value_offset)) place)) ≡ told_one m us at
     unfolding told_of
-    place-told h =
-        let d = target-place m (update_at us at) o w place e in
-        ap (λ (p : Point). asdu_octets (single spontaneous (two us at) p)) (stored-both h).1
+    place_told h =
+        let d = target_place m (update_at us at) o w place e in
+        ap (λ (p : Point). asdu_octets (single spontaneous (two us at) p)) (stored_both h).1
         ∙ sym (ap (λ (x : Option Point). wire (told_of (update_at us at) x)) d.update ∙ wire_one _)
 
 -- ---- the loop that sizes
@@ -175,8 +175,8 @@ going_start m us n s o w h =
 
 module _ (m₀ us : List ℕ) (n : ℕ) (s₀ m s : List ℕ) (o at left : ℕ) (g : Going m₀ us n s₀ m s o at left) where
   -- The next ASDU has room.
-  pub going-room : 0 < left → length (told_by_all m₀ us 0 n) ≤ length s₀ → o + length (told_one m us at) ≤ length s
-  going-room h r =
+  pub going_room : 0 < left → length (told_by_all m₀ us 0 n) ≤ length s₀ → o + length (told_one m us at) ≤ length s
+  going_room h r =
       let t = turned m us at left (left_one m us at) g.octets g.formed h refl in
       let a : o + length (told_by_all m us at left) ≤ length s = log_room s₀ (told_by_all m₀ us 0 n) s (told_by_all m us at left) 0 o g.log (omega arith) in
       let b : length (told_by_all m us at left) ≡ length (told_one m us at) + length (told_by_all (left_one m us at) us (at + update_octets) (left - 1)) =
@@ -192,7 +192,7 @@ module _ (m₀ us : List ℕ) (n : ℕ) (s₀ m s : List ℕ) (o at left : ℕ) 
       let todo : List ℕ = told_by_all m' us (at + update_octets) (left - 1) in
       let all : List ℕ = told_by_all m₀ us 0 n in
       let before : Log s₀ 0 all s o (A ++ todo) = subst (λ (x : List ℕ). Log s₀ 0 all s o x) t.tells g.log in
-      let on : Log s₀ 0 all (over s o A) (o + length A) todo = log_step s₀ all s A todo 0 o before (going-room h r) in
+      let on : Log s₀ 0 all (over s o A) (o + length A) todo = log_step s₀ all s A todo 0 o before (going_room h r) in
       let w : at + update_octets * left ≤ length us = g.whole in
       record {
         octets = oc;

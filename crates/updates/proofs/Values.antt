@@ -25,36 +25,36 @@ use Rattle.updates.specs.Values.{means, renewed_by, renewed, each}
 other_point : (p : Point) (ioa : ℕ) (ps : List Point) → (p.ioa ≡ ioa → ⊥) → point_in ioa (replace_in p ps) ≡ point_in ioa ps
 unfolding point_in replace_in
 other_point p ioa [] n = refl
-other_point p ioa (x ∷ xs) n = by-test (other_point p ioa xs n) (eqb x.ioa p.ioa) refl
+other_point p ioa (x ∷ xs) n = by_test (other_point p ioa xs n) (eqb x.ioa p.ioa) refl
   where
-    by-test : point_in ioa (replace_in p xs) ≡ point_in ioa xs → (b : Bool) → eqb x.ioa p.ioa ≡ b
+    by_test : point_in ioa (replace_in p xs) ≡ point_in ioa xs → (b : Bool) → eqb x.ioa p.ioa ≡ b
         → point_in ioa (pick b p x ∷ replace_in p xs) ≡ pick (eqb x.ioa ioa) (some x) (point_in ioa xs)
-    by-test ih true e =
+    by_test ih true e =
         let i : x.ioa ≡ p.ioa = eqb-true _ _ e in
         let n' : x.ioa ≡ ioa → ⊥ = λ k. n (sym i ∙ k) in
         simp (ne_eqb _ _ n, ne_eqb _ _ n') ih
-    by-test ih false e = ap (λ (r : Option Point). pick (eqb x.ioa ioa) (some x) r) ih
+    by_test ih false e = ap (λ (r : Option Point). pick (eqb x.ioa ioa) (some x) r) ih
 
 -- its own address: the point that was put there
 same_point : (p q : Point) (ps : List Point) → point_in p.ioa ps ≡ some q → point_in p.ioa (replace_in p ps) ≡ some p
 unfolding point_in replace_in
 same_point p q [] e = let z : ◌≡◌ {A = ℕ} 0 1 = cc in absurd (omega arith)
-same_point p q (x ∷ xs) e = by-test (eqb x.ioa p.ioa) refl e (λ f. same_point p q xs f)
+same_point p q (x ∷ xs) e = by_test (eqb x.ioa p.ioa) refl e (λ f. same_point p q xs f)
   where
-    by-test : (b : Bool) → eqb x.ioa p.ioa ≡ b → pick b (some x) (point_in p.ioa xs) ≡ some q
+    by_test : (b : Bool) → eqb x.ioa p.ioa ≡ b → pick b (some x) (point_in p.ioa xs) ≡ some q
         → (point_in p.ioa xs ≡ some q → point_in p.ioa (replace_in p xs) ≡ some p) → point_in p.ioa (pick b p x ∷ replace_in p xs) ≡ some p
-    by-test true t f again = simp (eq-eqb p.ioa p.ioa refl)
-    by-test false t f again = simp t (again f)
+    by_test true t f again = simp (eq-eqb p.ioa p.ioa refl)
+    by_test false t f again = simp t (again f)
 
 -- a point found has the address
 found_ioa : (ioa : ℕ) (ps : List Point) (q : Point) → point_in ioa ps ≡ some q → q.ioa ≡ ioa
 unfolding point_in
 found_ioa ioa [] q e = let z : ◌≡◌ {A = ℕ} 0 1 = cc in absurd (omega arith)
-found_ioa ioa (x ∷ xs) q e = by-test (eqb x.ioa ioa) refl e (λ f. found_ioa ioa xs q f)
+found_ioa ioa (x ∷ xs) q e = by_test (eqb x.ioa ioa) refl e (λ f. found_ioa ioa xs q f)
   where
-    by-test : (b : Bool) → eqb x.ioa ioa ≡ b → pick b (some x) (point_in ioa xs) ≡ some q → (point_in ioa xs ≡ some q → q.ioa ≡ ioa) → q.ioa ≡ ioa
-    by-test true t f again = let s : x ≡ q = cc in ap (λ (y : Point). y.ioa) (sym s) ∙ eqb-true _ _ t
-    by-test false t f again = again f
+    by_test : (b : Bool) → eqb x.ioa ioa ≡ b → pick b (some x) (point_in ioa xs) ≡ some q → (point_in ioa xs ≡ some q → q.ioa ≡ ioa) → q.ioa ≡ ioa
+    by_test true t f again = let s : x ≡ q = cc in ap (λ (y : Point). y.ioa) (sym s) ∙ eqb-true _ _ t
+    by_test false t f again = again f
 
 -- ---- one update
 
@@ -82,14 +82,14 @@ all_kept u ca (some p) n = ap some (kept_by u ca p (n p refl))
 
 module _ (t : Table) (u : Update) where
   -- its own address
-  own-address : addressed (table_with t u (update_of t u)) u.ca u.ioa ≡ each (renewed_by u u.ca) (addressed t u.ca u.ioa)
+  own_address : addressed (table_with t u (update_of t u)) u.ca u.ioa ≡ each (renewed_by u u.ca) (addressed t u.ca u.ioa)
   unfolding table_with changed updated point_in each renewed_by ◌&◌
-  own-address = of_station (station_of u.ca t.stations) refl
+  own_address = of_station (station_of u.ca t.stations) refl
     where
-      of-kind : (s : Station) → station_of u.ca t.stations ≡ some s → (q : Point) → point_in u.ioa s.points ≡ some q → (b : Bool)
+      of_kind_lem : (s : Station) → station_of u.ca t.stations ≡ some s → (q : Point) → point_in u.ioa s.points ≡ some q → (b : Bool)
           → addressed (table_with t u (pick b (some (revalued q u.value)) none)) u.ca u.ioa
           ≡ some (pick (eqb u.ca u.ca & eqb q.ioa u.ioa & b) (revalued q u.value) q)
-      of-kind s is q f true =
+      of_kind_lem s is q f true =
           let i : q.ioa ≡ u.ioa = found_ioa u.ioa s.points q f in
           let p : Point = revalued q u.value in
           let g : point_in q.ioa s.points ≡ some q = ap (λ (x : ℕ). point_in x s.points) i ∙ f in
@@ -97,71 +97,71 @@ module _ (t : Table) (u : Update) where
           ap (λ (x : Option Station). point_in u.ioa (points_of x)) (changed_station u.ca (replace_in p) t.stations s is)
           ∙ h
           ∙ simp (eq-eqb u.ca u.ca refl, eq-eqb q.ioa u.ioa i)
-      of-kind s is q f false =
+      of_kind_lem s is q f false =
           let i : q.ioa ≡ u.ioa = found_ioa u.ioa s.points q f in
           ap (λ (x : Option Station). point_in u.ioa (points_of x)) is ∙ f ∙ simp (eq-eqb u.ca u.ca refl, eq-eqb q.ioa u.ioa i)
 
-      of-point : (s : Station) → station_of u.ca t.stations ≡ some s → (x : Option Point) → point_in u.ioa s.points ≡ x
+      of_point : (s : Station) → station_of u.ca t.stations ≡ some s → (x : Option Point) → point_in u.ioa s.points ≡ x
           → addressed (table_with t u (updated u x)) u.ca u.ioa ≡ each (renewed_by u u.ca) x
-      of-point s is none f = ap (λ (x : Option Station). point_in u.ioa (points_of x)) is ∙ f
-      of-point s is (some q) f = of-kind s is q f (eqb q.kind u.kind)
+      of_point s is none f = ap (λ (x : Option Station). point_in u.ioa (points_of x)) is ∙ f
+      of_point s is (some q) f = of_kind_lem s is q f (eqb q.kind u.kind)
 
       of_station : (x : Option Station) → station_of u.ca t.stations ≡ x
           → addressed (table_with t u (updated u (point_in u.ioa (points_of x)))) u.ca u.ioa ≡ each (renewed_by u u.ca) (point_in u.ioa (points_of x))
       of_station none is = ap (λ (x : Option Station). point_in u.ioa (points_of x)) is
-      of_station (some s) is = of-point s is (point_in u.ioa s.points) refl
+      of_station (some s) is = of_point s is (point_in u.ioa s.points) refl
 
   -- another address of its station
-  other-address : (ioa : ℕ) → (u.ioa ≡ ioa → ⊥) → addressed (table_with t u (update_of t u)) u.ca ioa ≡ addressed t u.ca ioa
+  other_address : (ioa : ℕ) → (u.ioa ≡ ioa → ⊥) → addressed (table_with t u (update_of t u)) u.ca ioa ≡ addressed t u.ca ioa
   unfolding table_with changed updated point_in
-  other-address ioa n = of_station (station_of u.ca t.stations) refl
+  other_address ioa n = of_station (station_of u.ca t.stations) refl
     where
-      of-kind : (s : Station) → station_of u.ca t.stations ≡ some s → (q : Point) → point_in u.ioa s.points ≡ some q → (b : Bool)
+      of_kind_lem : (s : Station) → station_of u.ca t.stations ≡ some s → (q : Point) → point_in u.ioa s.points ≡ some q → (b : Bool)
           → addressed (table_with t u (pick b (some (revalued q u.value)) none)) u.ca ioa ≡ addressed t u.ca ioa
-      of-kind s is q f true =
+      of_kind_lem s is q f true =
           let i : q.ioa ≡ u.ioa = found_ioa u.ioa s.points q f in
           let p : Point = revalued q u.value in
           ap (λ (x : Option Station). point_in ioa (points_of x)) (changed_station u.ca (replace_in p) t.stations s is)
           ∙ other_point p ioa s.points (λ k. n (sym i ∙ k))
           ∙ sym (ap (λ (x : Option Station). point_in ioa (points_of x)) is)
-      of-kind s is q f false = refl
+      of_kind_lem s is q f false = refl
 
-      of-point : (s : Station) → station_of u.ca t.stations ≡ some s → (x : Option Point) → point_in u.ioa s.points ≡ x
+      of_point : (s : Station) → station_of u.ca t.stations ≡ some s → (x : Option Point) → point_in u.ioa s.points ≡ x
           → addressed (table_with t u (updated u x)) u.ca ioa ≡ addressed t u.ca ioa
-      of-point s is none f = refl
-      of-point s is (some q) f = of-kind s is q f (eqb q.kind u.kind)
+      of_point s is none f = refl
+      of_point s is (some q) f = of_kind_lem s is q f (eqb q.kind u.kind)
 
       of_station : (x : Option Station) → station_of u.ca t.stations ≡ x
           → addressed (table_with t u (updated u (point_in u.ioa (points_of x)))) u.ca ioa ≡ addressed t u.ca ioa
       of_station none is = refl
-      of_station (some s) is = of-point s is (point_in u.ioa s.points) refl
+      of_station (some s) is = of_point s is (point_in u.ioa s.points) refl
 
   -- another station
-  other-ca : (ca ioa : ℕ) → (u.ca ≡ ca → ⊥) → addressed (table_with t u (update_of t u)) ca ioa ≡ addressed t ca ioa
+  other_ca : (ca ioa : ℕ) → (u.ca ≡ ca → ⊥) → addressed (table_with t u (update_of t u)) ca ioa ≡ addressed t ca ioa
   unfolding table_with changed
-  other-ca ca ioa n = of-update (update_of t u)
+  other_ca ca ioa n = of_update (update_of t u)
     where
-      of-update : (o : Option Point) → addressed (table_with t u o) ca ioa ≡ addressed t ca ioa
-      of-update none = refl
-      of-update (some p) = ap (λ (x : Option Station). point_in ioa (points_of x)) (other_station u.ca ca (replace_in p) t.stations n)
+      of_update : (o : Option Point) → addressed (table_with t u o) ca ioa ≡ addressed t ca ioa
+      of_update none = refl
+      of_update (some p) = ap (λ (x : Option Station). point_in ioa (points_of x)) (other_station u.ca ca (replace_in p) t.stations n)
 
   -- ONE UPDATE leaves at every address the point after it.
-  pub update-point : (ca ioa : ℕ) → addressed (table_with t u (update_of t u)) ca ioa ≡ each (renewed_by u ca) (addressed t ca ioa)
-  update-point ca ioa = by-station (eqb u.ca ca) refl
+  pub update_point : (ca ioa : ℕ) → addressed (table_with t u (update_of t u)) ca ioa ≡ each (renewed_by u ca) (addressed t ca ioa)
+  update_point ca ioa = by_station (eqb u.ca ca) refl
     where
-      by-address : (b : Bool) → eqb u.ioa ioa ≡ b → addressed (table_with t u (update_of t u)) u.ca ioa ≡ each (renewed_by u u.ca) (addressed t u.ca ioa)
-      by-address true e =
-          subst (λ (x : ℕ). addressed (table_with t u (update_of t u)) u.ca x ≡ each (renewed_by u u.ca) (addressed t u.ca x)) (eqb-true _ _ e) own-address
-      by-address false e =
-          other-address ioa (eqb-false _ _ e)
+      by_address_lem : (b : Bool) → eqb u.ioa ioa ≡ b → addressed (table_with t u (update_of t u)) u.ca ioa ≡ each (renewed_by u u.ca) (addressed t u.ca ioa)
+      by_address_lem true e =
+          subst (λ (x : ℕ). addressed (table_with t u (update_of t u)) u.ca x ≡ each (renewed_by u u.ca) (addressed t u.ca x)) (eqb-true _ _ e) own_address
+      by_address_lem false e =
+          other_address ioa (eqb-false _ _ e)
           ∙ sym (all_kept u u.ca (addressed t u.ca ioa)
           (λ p f. not_address u u.ca p (λ k. eqb-false _ _ e (sym k ∙ found_ioa ioa (points_of (station_of u.ca t.stations)) p f))))
 
-      by-station : (b : Bool) → eqb u.ca ca ≡ b → addressed (table_with t u (update_of t u)) ca ioa ≡ each (renewed_by u ca) (addressed t ca ioa)
-      by-station true e =
+      by_station : (b : Bool) → eqb u.ca ca ≡ b → addressed (table_with t u (update_of t u)) ca ioa ≡ each (renewed_by u ca) (addressed t ca ioa)
+      by_station true e =
           subst (λ (x : ℕ). addressed (table_with t u (update_of t u)) x ioa ≡ each (renewed_by u x) (addressed t x ioa)) (eqb-true _ _ e)
-          (by-address (eqb u.ioa ioa) refl)
-      by-station false e = other-ca ca ioa (eqb-false _ _ e) ∙ sym (all_kept u ca (addressed t ca ioa) (λ p f. not_station u ca p (eqb-false _ _ e)))
+          (by_address_lem (eqb u.ioa ioa) refl)
+      by_station false e = other_ca ca ioa (eqb-false _ _ e) ∙ sym (all_kept u ca (addressed t ca ioa) (λ p f. not_station u ca p (eqb-false _ _ e)))
 
 -- ---- all updates
 
@@ -181,7 +181,7 @@ unfolding table_after renewed
 updates_points t [] ca ioa = each_same (addressed t ca ioa) ca
 updates_points t (u ∷ us) ca ioa =
     updates_points (table_with t u (update_of t u)) us ca ioa
-    ∙ ap (each (renewed us ca)) (update-point t u ca ioa)
+    ∙ ap (each (renewed us ca)) (update_point t u ca ioa)
     ∙ each_each (renewed us ca) (renewed_by u ca) (addressed t ca ioa)
 
 -- ---- what a renewed point keeps
@@ -195,11 +195,11 @@ pub record Kept (p q : Point) : Type 0 where
 
 pub one_keeps : (u : Update) (ca : ℕ) (p : Point) → Kept p (renewed_by u ca p)
 unfolding renewed_by
-one_keeps u ca p = by-test (means u ca p)
+one_keeps u ca p = by_test (means u ca p)
   where
-    by-test : (b : Bool) → Kept p (pick b (revalued p u.value) p)
-    by-test true = record { kind = refl; ioa = refl; group = refl; counter = refl }
-    by-test false = record { kind = refl; ioa = refl; group = refl; counter = refl }
+    by_test : (b : Bool) → Kept p (pick b (revalued p u.value) p)
+    by_test true = record { kind = refl; ioa = refl; group = refl; counter = refl }
+    by_test false = record { kind = refl; ioa = refl; group = refl; counter = refl }
 
 pub renewed_keeps : (us : List Update) (ca : ℕ) (p : Point) → Kept p (renewed us ca p)
 unfolding renewed

@@ -7,8 +7,8 @@ use Rattle.table.specs.Memory.{head_at}
 use Rattle.table.proofs.Parse.{Head, head_is}
 
 pub no_head : (m : List ℕ) → (Head m → ⊥) → false ≡ head_at m
-no_head m f = by-test (head_at m) refl
+no_head m f = by_test (head_at m) refl
   where
-    by-test : (b : Bool) → head_at m ≡ b → false ≡ b
-    by-test true e = absurd (f (head_is m e))
-    by-test false e = refl
+    by_test : (b : Bool) → head_at m ≡ b → false ≡ b
+    by_test true e = absurd (f (head_is m e))
+    by_test false e = refl

@@ -14,28 +14,28 @@ module _ (m : List ℕ) (sb n : ℕ) (h : 0 < n) where
   one_more : n ≡ suc (n - 1)
   one_more = omega arith
 
-  pub sum-on : (f : List ℕ → ℕ → ℕ) → sum_at f m sb n ≡ f m sb + sum_at f m (sb + 8) (n - 1)
+  pub sum_on : (f : List ℕ → ℕ → ℕ) → sum_at f m sb n ≡ f m sb + sum_at f m (sb + 8) (n - 1)
   unfolding sum_at
-  sum-on f = ap (sum_at f m sb) one_more
+  sum_on f = ap (sum_at f m sb) one_more
 
   module _ (k low : ℕ) where
-    pub plan-on : numbers_ok k low (two m sb) (two m (sb + 2)) (two m (sb + 4)) (two m (sb + 6)) ≡ true
+    pub plan_on : numbers_ok k low (two m sb) (two m (sb + 2)) (two m (sb + 4)) (two m (sb + 6)) ≡ true
         → plan_at m k low sb n ≡ plan_at m k (two m sb + 1) (sb + 8) (n - 1)
     unfolding plan_at ◌&◌
-    plan-on e = ap (plan_at m k low sb) one_more ∙ simp e
+    plan_on e = ap (plan_at m k low sb) one_more ∙ simp e
 
-    pub plan-off : numbers_ok k low (two m sb) (two m (sb + 2)) (two m (sb + 4)) (two m (sb + 6)) ≡ false → plan_at m k low sb n ≡ false
+    pub plan_off : numbers_ok k low (two m sb) (two m (sb + 2)) (two m (sb + 4)) (two m (sb + 6)) ≡ false → plan_at m k low sb n ≡ false
     unfolding plan_at ◌&◌
-    plan-off e = ap (plan_at m k low sb) one_more ∙ simp e
+    plan_off e = ap (plan_at m k low sb) one_more ∙ simp e
 
   module _ (pb : ℕ) where
-    pub bodies-on : places_ok m pb (two m sb) 0 (two m (sb + 6)) ≡ true → bodies_at m pb sb n ≡ bodies_at m (pb + 48 * two m (sb + 6)) (sb + 8) (n - 1)
+    pub bodies_on : places_ok m pb (two m sb) 0 (two m (sb + 6)) ≡ true → bodies_at m pb sb n ≡ bodies_at m (pb + 48 * two m (sb + 6)) (sb + 8) (n - 1)
     unfolding bodies_at ◌&◌
-    bodies-on e = ap (bodies_at m pb sb) one_more ∙ simp e
+    bodies_on e = ap (bodies_at m pb sb) one_more ∙ simp e
 
-    pub bodies-off : places_ok m pb (two m sb) 0 (two m (sb + 6)) ≡ false → bodies_at m pb sb n ≡ false
+    pub bodies_off : places_ok m pb (two m sb) 0 (two m (sb + 6)) ≡ false → bodies_at m pb sb n ≡ false
     unfolding bodies_at ◌&◌
-    bodies-off e = ap (bodies_at m pb sb) one_more ∙ simp e
+    bodies_off e = ap (bodies_at m pb sb) one_more ∙ simp e
 
 pub sum_end : (f : List ℕ → ℕ → ℕ) (m : List ℕ) (sb n : ℕ) → n ≤ 0 → sum_at f m sb n ≡ 0
 unfolding sum_at

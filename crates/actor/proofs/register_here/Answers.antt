@@ -13,13 +13,10 @@ use Rattle.lookup.specs.declared.Seat.TheVariants.{Here}
 use Rattle.lookup.proofs.Laws.{seat_law}
 use Rattle.actor.specs.Actor.{seat_fault, offset_of, room_at}
 use Rattle.insert.specs.Insert.{placed}
-use Rattle.actor.proofs.Register.{register-own, register-room, register-done, register-bounds}
+use Rattle.actor.proofs.Register.{register_own, register_room, register_done, register_bounds}
 use borrow.Author.Rules.{rules}
 use native.Mathlib.Omega.{arith}
 use Rattle.actor.proofs.register_here.Goals as goal
-
-pub overflow_cast-q : goal.overflow_cast-q
-overflow_cast-q c = search rules
 
 pub find-spot-requires : goal.find-spot-requires
 find-spot-requires c =
@@ -35,18 +32,6 @@ find-spot-requires c =
     let room = q.top.room in
     omega arith
 
-pub seat_fault-own-requires : goal.seat_fault-own-requires
-seat_fault-own-requires c = search rules
-
-pub is_done-requires : goal.is_done-requires
-is_done-requires c = search rules
-
-pub reply_of-requires : goal.reply_of-requires
-reply_of-requires c = search rules
-
-pub shape_of-table-then-not-is_done : goal.shape_of-table-then-not-is_done
-shape_of-table-then-not-is_done c = search rules
-
 pub returns-then-not-is_done : goal.returns-then-not-is_done
 returns-then-not-is_done c =
     let a = c.args in
@@ -56,8 +41,8 @@ returns-then-not-is_done c =
     let o : Octets m = λ k. omega (arith, c.slice_known-1.given k) in
     let spot = find_at m a.first a.h a.q.ioa in
     let own : c.seat_fault-own.result ≡ seat_fault a.q spot = c.seat_fault-own.ensures ∙ ap (seat_fault a.q) c.find-spot.ensures in
-    let d : is_done (seat_fault a.q spot) ≡ false = ap is_done (sym own) ∙ sym c.is_done.ensures ∙ not-true _ c.if-not-is_done.true in
-    let z = register-own m o w a.q a.i a.first a.h s d in
+    let d : is_done (seat_fault a.q spot) ≡ false = ap is_done (sym own) ∙ sym c.is_done.ensures ∙ c.if-not-is_done.true in
+    let z = register_own m o w a.q a.i a.first a.h s d in
     (c.reply_of.ensures ∙ (λ j. record { outcome = own j; place = 0 }) ∙ z.0, z.1)
 
 pub room_at-room-requires : goal.room_at-room-requires
@@ -71,15 +56,6 @@ room_at-room-requires c =
     let q = passed m w in
     (q.top.room, z.stations, q.top.s_high, q.few)
 
-pub is_done-requires-2 : goal.is_done-requires-2
-is_done-requires-2 c = search rules
-
-pub reply_of-requires-then-not-is_done-2 : goal.reply_of-requires-then-not-is_done-2
-reply_of-requires-then-not-is_done-2 c = search rules
-
-pub shape_of-table-then-not-is_done-2 : goal.shape_of-table-then-not-is_done-2
-shape_of-table-then-not-is_done-2 c = search rules
-
 pub returns-then-not-is_done-2 : goal.returns-then-not-is_done-2
 returns-then-not-is_done-2 c =
     let a = c.args in
@@ -89,20 +65,11 @@ returns-then-not-is_done-2 c =
     let o : Octets m = λ k. omega (arith, c.slice_known-1.given k) in
     let spot = find_at m a.first a.h a.q.ioa in
     let own : c.seat_fault-own.result ≡ seat_fault a.q spot = c.seat_fault-own.ensures ∙ ap (seat_fault a.q) c.find-spot.ensures in
-    let d : is_done (seat_fault a.q spot) ≡ true = ap is_done (sym own) ∙ sym c.is_done.ensures ∙ not-false _ c.if-not-is_done.false in
-    let r : is_done (room_at m a.i) ≡ false = ap is_done (sym c.room_at-room.ensures) ∙ sym c.is_done-2.ensures ∙ not-true _ c.if-not-is_done-2.true in
+    let d : is_done (seat_fault a.q spot) ≡ true = ap is_done (sym own) ∙ sym c.is_done.ensures ∙ c.if-not-is_done.false in
+    let r : is_done (room_at m a.i) ≡ false = ap is_done (sym c.room_at-room.ensures) ∙ sym c.is_done-2.ensures ∙ c.if-not-is_done-2.true in
     let x = c.room_at-room.ensures in
-    let z = register-room m o w a.q a.i a.first a.h s d r in
+    let z = register_room m o w a.q a.i a.first a.h s d r in
     (c.reply_of-then-not-is_done-2.ensures ∙ (λ j. record { outcome = x j; place = 0 }) ∙ z.0, z.1)
-
-pub overflow_cast-q-2 : goal.overflow_cast-q-2
-overflow_cast-q-2 c = search rules
-
-pub point_of-requires : goal.point_of-requires
-point_of-requires c = search rules
-
-pub offset_of-requires : goal.offset_of-requires
-offset_of-requires c = search rules
 
 pub insert-requires : goal.insert-requires
 insert-requires c =
@@ -113,21 +80,15 @@ insert-requires c =
     let o : Octets m = λ k. omega (arith, c.slice_known-1.given k) in
     let spot = find_at m a.first a.h a.q.ioa in
     let own : c.seat_fault-own.result ≡ seat_fault a.q spot = c.seat_fault-own.ensures ∙ ap (seat_fault a.q) c.find-spot.ensures in
-    let d : is_done (seat_fault a.q spot) ≡ true = ap is_done (sym own) ∙ sym c.is_done.ensures ∙ not-false _ c.if-not-is_done.false in
-    let r : is_done (room_at m a.i) ≡ true = ap is_done (sym c.room_at-room.ensures) ∙ sym c.is_done-2.ensures ∙ not-false _ c.if-not-is_done-2.false in
+    let d : is_done (seat_fault a.q spot) ≡ true = ap is_done (sym own) ∙ sym c.is_done.ensures ∙ c.if-not-is_done.false in
+    let r : is_done (room_at m a.i) ≡ true = ap is_done (sym c.room_at-room.ensures) ∙ sym c.is_done-2.ensures ∙ c.if-not-is_done-2.false in
     let at : c.offset_of.result ≡ offset_of spot = c.offset_of.ensures ∙ ap offset_of c.find-spot.ensures in
     let p = c.point_of.ensures in
-    let b = register-bounds m o w a.q a.i a.first a.h s d r in
+    let b = register_bounds m o w a.q a.i a.first a.h s d r in
     let ioa = b.0 in
     let place = b.1.4 in
     let pi = ap (λ (x : Point). x.ioa) p in
     (omega (arith, c.struct_known-2-1.given), omega arith, (b.1.0, b.1.1, b.1.2, b.1.3, omega arith))
-
-pub reply_of-requires-2 : goal.reply_of-requires-2
-reply_of-requires-2 c = search rules
-
-pub shape_of-table : goal.shape_of-table
-shape_of-table c = search rules
 
 pub returns : goal.returns
 returns c =
@@ -138,9 +99,9 @@ returns c =
     let o : Octets m = λ k. omega (arith, c.slice_known-1.given k) in
     let spot = find_at m a.first a.h a.q.ioa in
     let own : c.seat_fault-own.result ≡ seat_fault a.q spot = c.seat_fault-own.ensures ∙ ap (seat_fault a.q) c.find-spot.ensures in
-    let d : is_done (seat_fault a.q spot) ≡ true = ap is_done (sym own) ∙ sym c.is_done.ensures ∙ not-false _ c.if-not-is_done.false in
-    let r : is_done (room_at m a.i) ≡ true = ap is_done (sym c.room_at-room.ensures) ∙ sym c.is_done-2.ensures ∙ not-false _ c.if-not-is_done-2.false in
+    let d : is_done (seat_fault a.q spot) ≡ true = ap is_done (sym own) ∙ sym c.is_done.ensures ∙ c.if-not-is_done.false in
+    let r : is_done (room_at m a.i) ≡ true = ap is_done (sym c.room_at-room.ensures) ∙ sym c.is_done-2.ensures ∙ c.if-not-is_done-2.false in
     let at : c.offset_of.result ≡ offset_of spot = c.offset_of.ensures ∙ ap offset_of c.find-spot.ensures in
     let p = c.point_of.ensures in
-    let z = register-done m o w a.q a.i a.first a.h s d r in
+    let z = register_done m o w a.q a.i a.first a.h s d r in
     (c.reply_of-2.ensures ∙ z.0, c.insert.ensures ∙ (λ j. placed m a.q.ca (p j) a.i a.h (at j)) ∙ z.1)

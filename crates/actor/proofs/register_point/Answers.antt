@@ -7,63 +7,36 @@ use Rattle.table.specs.Memory.{well_formed}
 use Rattle.table.proofs.Parse.{passed}
 use Rattle.registry.specs.Registry.{registering}
 use Rattle.replies.proofs.Ways.{no_table}
-use Rattle.actor.proofs.Register.{register-absent}
+use Rattle.actor.proofs.Register.{register_absent}
 use borrow.Author.Rules.{rules}
 use native.Mathlib.Omega.{arith}
 use Rattle.actor.proofs.register_point.Goals as goal
-
-pub well_formed-requires : goal.well_formed-requires
-well_formed-requires c = search rules
-
-pub reply_of-requires : goal.reply_of-requires
-reply_of-requires c = search rules
-
-pub shape_of-table-then-not-well_formed : goal.shape_of-table-then-not-well_formed
-shape_of-table-then-not-well_formed c = search rules
 
 pub returns-then-not-well_formed : goal.returns-then-not-well_formed
 returns-then-not-well_formed c =
     let a = c.args in
     let m = a.table.now in
-    let w : well_formed m ≡ false = sym c.well_formed-2.ensures ∙ not-true _ c.if-not-well_formed.true in
+    let w : well_formed m ≡ false = sym c.well_formed-2.ensures ∙ c.if-not-well_formed.true in
     let z = no_table (registering a.q) m w in
     (c.reply_of.ensures ∙ z.0, z.1)
-
-pub overflow_cast-q : goal.overflow_cast-q
-overflow_cast-q c = search rules
 
 pub seat_at-requires : goal.seat_at-requires
 seat_at-requires c =
     let a = c.args in
     let m = a.table.now in
-    let w : well_formed m ≡ true = sym c.well_formed-2.ensures ∙ not-false _ c.if-not-well_formed.false in
+    let w : well_formed m ≡ true = sym c.well_formed-2.ensures ∙ c.if-not-well_formed.false in
     let top = (passed m w).top in
     let high = top.s_high in
     let room = top.room in
     (omega arith, omega arith)
 
-pub enum_known-i : goal.enum_known-i
-enum_known-i c = search rules
-
-pub enum_told-1 : goal.enum_told-1
-enum_told-1 c = search rules
-
-pub own_fault-requires : goal.own_fault-requires
-own_fault-requires c = search rules
-
-pub reply_of-requires-in_default : goal.reply_of-requires-in_default
-reply_of-requires-in_default c = search rules
-
-pub shape_of-table-in_default : goal.shape_of-table-in_default
-shape_of-table-in_default c = search rules
-
 pub returns-in_default : goal.returns-in_default
 returns-in_default c =
     let a = c.args in
     let m = a.table.now in
-    let w : well_formed m ≡ true = sym c.well_formed-2.ensures ∙ not-false _ c.if-not-well_formed.false in
+    let w : well_formed m ≡ true = sym c.well_formed-2.ensures ∙ c.if-not-well_formed.false in
     let o : Octets m = λ k. omega (arith, c.slice_known-1.given k) in
-    let z = register-absent m o w a.q (sym c.seat_at.ensures ∙ c.in_default.is) in
+    let z = register_absent m o w a.q (sym c.seat_at.ensures ∙ c.in_default.is) in
     let e = c.own_fault.ensures in
     (c.reply_of-in_default.ensures ∙ (λ j. record { outcome = e j; place = 0 }) ∙ z.0, z.1)
 
@@ -71,12 +44,8 @@ pub register_here-requires : goal.register_here-requires
 register_here-requires c =
     let a = c.args in
     let m = a.table.now in
-    let w : well_formed m ≡ true = sym c.well_formed-2.ensures ∙ not-false _ c.if-not-well_formed.false in
-    let g = c.before.before.i.given in
-    (w, sym c.seat_at.ensures ∙ g.1)
-
-pub shape_of-table : goal.shape_of-table
-shape_of-table c = search rules
+    let w : well_formed m ≡ true = sym c.well_formed-2.ensures ∙ c.if-not-well_formed.false in
+    (w, sym c.seat_at.ensures ∙ c.in-Here.is)
 
 pub returns : goal.returns
 returns c =

@@ -7,15 +7,6 @@ use Rattle.actor.specs.Actor.{room_at, station_share_at}
 use borrow.Author.Rules.{rules}
 use Rattle.actor.proofs.room_at.Goals as goal
 
-pub share_here-here-requires : goal.share_here-here-requires
-share_here-here-requires c = search rules
-
-pub admission-requires : goal.admission-requires
-admission-requires c = search rules
-
-pub outcome_of-requires : goal.outcome_of-requires
-outcome_of-requires c = search rules
-
 pub returns : goal.returns
 unfolding room_at station_share_at
 returns c =

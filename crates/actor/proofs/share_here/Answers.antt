@@ -9,33 +9,6 @@ use Rattle.actor.specs.Actor.{station_share_at}
 use borrow.Author.Rules.{rules}
 use Rattle.actor.proofs.share_here.Goals as goal
 
-pub capacity_of-k-requires : goal.capacity_of-k-requires
-capacity_of-k-requires c = search rules
-
-pub stations_of-n-requires : goal.stations_of-n-requires
-stations_of-n-requires c = search rules
-
-pub points_of-points-requires : goal.points_of-points-requires
-points_of-points-requires c = search rules
-
-pub overflow_mul-k : goal.overflow_mul-k
-overflow_mul-k c = search rules
-
-pub overflow_add-k : goal.overflow_add-k
-overflow_add-k c = search rules
-
-pub add_up-sums-requires : goal.add_up-sums-requires
-add_up-sums-requires c = search rules
-
-pub station_at-station-requires : goal.station_at-station-requires
-station_at-station-requires c = search rules
-
-pub share_at-share-requires : goal.share_at-share-requires
-share_at-share-requires c = search rules
-
-pub overflow_sub-result : goal.overflow_sub-result
-overflow_sub-result c = search rules
-
 pub returns : goal.returns
 unfolding station_share_at
 returns c =

@@ -13,20 +13,11 @@ use borrow.Author.Rules.{rules}
 use native.Mathlib.Omega.{arith}
 use Rattle.actor.proofs.unregister_all.Goals as goal
 
-pub well_formed-requires : goal.well_formed-requires
-well_formed-requires c = search rules
-
-pub reply_of-requires : goal.reply_of-requires
-reply_of-requires c = search rules
-
-pub shape_of-table-then-not-well_formed : goal.shape_of-table-then-not-well_formed
-shape_of-table-then-not-well_formed c = search rules
-
 pub returns-then-not-well_formed : goal.returns-then-not-well_formed
 returns-then-not-well_formed c =
     let a = c.args in
     let m = a.table.now in
-    let w : well_formed m ≡ false = sym c.well_formed-2.ensures ∙ not-true _ c.if-not-well_formed.true in
+    let w : well_formed m ≡ false = sym c.well_formed-2.ensures ∙ c.if-not-well_formed.true in
     let z = no_table unregistering_all m w in
     (c.reply_of.ensures ∙ z.0, z.1)
 
@@ -34,19 +25,16 @@ pub take_all_out-removed-requires : goal.take_all_out-removed-requires
 take_all_out-removed-requires c =
     let a = c.args in
     let m = a.table.now in
-    let w : well_formed m ≡ true = sym c.well_formed-2.ensures ∙ not-false _ c.if-not-well_formed.false in
+    let w : well_formed m ≡ true = sym c.well_formed-2.ensures ∙ c.if-not-well_formed.false in
     let o : Octets m = λ k. omega (arith, c.slice_known-1.given k) in
     let b = (take_all_out_law m o w).bounds in
     (b.0, b.1)
-
-pub shape_of-table : goal.shape_of-table
-shape_of-table c = search rules
 
 pub returns : goal.returns
 returns c =
     let a = c.args in
     let m = a.table.now in
-    let w : well_formed m ≡ true = sym c.well_formed-2.ensures ∙ not-false _ c.if-not-well_formed.false in
+    let w : well_formed m ≡ true = sym c.well_formed-2.ensures ∙ c.if-not-well_formed.false in
     let o : Octets m = λ k. omega (arith, c.slice_known-1.given k) in
     let z = all_done m o w in
     let n = c.take_all_out-removed.ensures.0 in

@@ -8,26 +8,17 @@ use Rattle.table.proofs.Parse.{passed}
 use Rattle.lookup.proofs.Laws.{seat_law}
 use Rattle.registry.specs.Registry.{unregistering}
 use Rattle.replies.proofs.Ways.{no_table}
-use Rattle.actor.proofs.Unregister.{out-absent, out-missing, out-done}
+use Rattle.actor.proofs.Unregister.{out_absent, out_missing, out_done}
 use Rattle.remove.proofs.Entry.{take_out_law}
 use borrow.Author.Rules.{rules}
 use native.Mathlib.Omega.{arith}
 use Rattle.actor.proofs.unregister_point.Goals as goal
 
-pub well_formed-requires : goal.well_formed-requires
-well_formed-requires c = search rules
-
-pub reply_of-requires : goal.reply_of-requires
-reply_of-requires c = search rules
-
-pub shape_of-table-then-not-well_formed : goal.shape_of-table-then-not-well_formed
-shape_of-table-then-not-well_formed c = search rules
-
 pub returns-then-not-well_formed : goal.returns-then-not-well_formed
 returns-then-not-well_formed c =
     let a = c.args in
     let m = a.table.now in
-    let w : well_formed m ≡ false = sym c.well_formed-2.ensures ∙ not-true _ c.if-not-well_formed.true in
+    let w : well_formed m ≡ false = sym c.well_formed-2.ensures ∙ c.if-not-well_formed.true in
     let z = no_table (unregistering a.ca a.ioa) m w in
     (c.reply_of.ensures ∙ z.0, z.1)
 
@@ -35,37 +26,25 @@ pub seat_at-requires : goal.seat_at-requires
 seat_at-requires c =
     let a = c.args in
     let m = a.table.now in
-    let w : well_formed m ≡ true = sym c.well_formed-2.ensures ∙ not-false _ c.if-not-well_formed.false in
+    let w : well_formed m ≡ true = sym c.well_formed-2.ensures ∙ c.if-not-well_formed.false in
     let top = (passed m w).top in
     let high = top.s_high in
     let room = top.room in
     (omega arith, omega arith)
 
-pub enum_known-i : goal.enum_known-i
-enum_known-i c = search rules
-
-pub enum_told-1 : goal.enum_told-1
-enum_told-1 c = search rules
-
-pub reply_of-requires-in_default : goal.reply_of-requires-in_default
-reply_of-requires-in_default c = search rules
-
-pub shape_of-table-in_default : goal.shape_of-table-in_default
-shape_of-table-in_default c = search rules
-
 pub returns-in_default : goal.returns-in_default
 returns-in_default c =
     let a = c.args in
     let m = a.table.now in
-    let w : well_formed m ≡ true = sym c.well_formed-2.ensures ∙ not-false _ c.if-not-well_formed.false in
-    let z = out-absent m w a.ca a.ioa (sym c.seat_at.ensures ∙ c.in_default.is) in
+    let w : well_formed m ≡ true = sym c.well_formed-2.ensures ∙ c.if-not-well_formed.false in
+    let z = out_absent m w a.ca a.ioa (sym c.seat_at.ensures ∙ c.in_default.is) in
     (c.reply_of-in_default.ensures ∙ z.0, z.1)
 
 pub find-requires : goal.find-requires
 find-requires c =
     let a = c.args in
     let m = a.table.now in
-    let w : well_formed m ≡ true = sym c.well_formed-2.ensures ∙ not-false _ c.if-not-well_formed.false in
+    let w : well_formed m ≡ true = sym c.well_formed-2.ensures ∙ c.if-not-well_formed.false in
     let o : Octets m = λ k. omega (arith, c.slice_known-1.given k) in
     let s = sym c.seat_at.ensures ∙ c.in-Here.is in
     let z = seat_law m a.ca _ _ _ o w s in
@@ -75,50 +54,32 @@ find-requires c =
     let room = q.top.room in
     omega arith
 
-pub enum_known-at : goal.enum_known-at
-enum_known-at c = search rules
-
-pub enum_told-in_default-find : goal.enum_told-in_default-find
-enum_told-in_default-find c = search rules
-
-pub reply_of-requires-in_default-find : goal.reply_of-requires-in_default-find
-reply_of-requires-in_default-find c = search rules
-
-pub shape_of-table-in_default-find : goal.shape_of-table-in_default-find
-shape_of-table-in_default-find c = search rules
-
 pub returns-in_default-find : goal.returns-in_default-find
 returns-in_default-find c =
     let a = c.args in
     let m = a.table.now in
-    let w : well_formed m ≡ true = sym c.well_formed-2.ensures ∙ not-false _ c.if-not-well_formed.false in
+    let w : well_formed m ≡ true = sym c.well_formed-2.ensures ∙ c.if-not-well_formed.false in
     let o : Octets m = λ k. omega (arith, c.slice_known-1.given k) in
     let s = sym c.seat_at.ensures ∙ c.in-Here.is in
-    let z = out-missing m w a.ca a.ioa o _ _ _ s _ (sym c.find.ensures ∙ c.in_default-find.is) in
+    let z = out_missing m w a.ca a.ioa o _ _ _ s _ (sym c.find.ensures ∙ c.in_default-find.is) in
     (c.reply_of-in_default-find.ensures ∙ z.0, z.1)
 
 pub take_out-requires : goal.take_out-requires
 take_out-requires c =
     let a = c.args in
     let m = a.table.now in
-    let w : well_formed m ≡ true = sym c.well_formed-2.ensures ∙ not-false _ c.if-not-well_formed.false in
+    let w : well_formed m ≡ true = sym c.well_formed-2.ensures ∙ c.if-not-well_formed.false in
     let o : Octets m = λ k. omega (arith, c.slice_known-1.given k) in
     let s = sym c.seat_at.ensures ∙ c.in-Here.is in
     let b = (take_out_law m a.ca a.ioa _ _ _ _ o w s (sym c.find.ensures ∙ c.in-Held.is)).bounds in
     b
 
-pub reply_of-requires-2 : goal.reply_of-requires-2
-reply_of-requires-2 c = search rules
-
-pub shape_of-table : goal.shape_of-table
-shape_of-table c = search rules
-
 pub returns : goal.returns
 returns c =
     let a = c.args in
     let m = a.table.now in
-    let w : well_formed m ≡ true = sym c.well_formed-2.ensures ∙ not-false _ c.if-not-well_formed.false in
+    let w : well_formed m ≡ true = sym c.well_formed-2.ensures ∙ c.if-not-well_formed.false in
     let o : Octets m = λ k. omega (arith, c.slice_known-1.given k) in
     let s = sym c.seat_at.ensures ∙ c.in-Here.is in
-    let z = out-done m w a.ca a.ioa o _ _ _ s _ (sym c.find.ensures ∙ c.in-Held.is) in
+    let z = out_done m w a.ca a.ioa o _ _ _ s _ (sym c.find.ensures ∙ c.in-Held.is) in
     (c.reply_of-2.ensures ∙ z.0, c.take_out.ensures ∙ z.1)

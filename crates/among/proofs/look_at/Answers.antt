@@ -9,15 +9,9 @@ pub returns-then-left-eq0 : goal.returns-then-left-eq0
 unfolding looked stepped
 returns-then-left-eq0 c = (simp (eq-eqb _ _ c.if-left-eq0.true), refl)
 
-pub same_address-requires : goal.same_address-requires
-same_address-requires c = search rules
-
 pub returns-then-same_address : goal.returns-then-same_address
 unfolding looked stepped
 returns-then-same_address c = (simp (ne_eqb _ _ c.if-left-eq0.false, sym c.same_address.ensures ∙ c.if-same_address.true), refl)
-
-pub overflow_sub-result : goal.overflow_sub-result
-overflow_sub-result c = search rules
 
 pub returns : goal.returns
 unfolding looked stepped

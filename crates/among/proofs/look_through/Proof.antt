@@ -57,7 +57,7 @@ use Rattle.among.specs.contracts.Search as S
 use Rattle.among.proofs.Search.TheLaws as S'
 use Rattle.among.proofs.Again.{LentAgain, lends_again, comes_back}
 use Rattle.among.proofs.Locals.{alloc_all}
-use Rattle.among.proofs.Turns.{at-end, at_done, at_more}
+use Rattle.among.proofs.Turns.{at_end, at_done, at_more}
 use Rattle.among.specs.contracts.look_at as callee
 use Rattle.among.proofs.look_at.Symbol as callee-def
 use Rattle.among.proofs.look_at.Symbol.{name as #callee}
@@ -307,7 +307,7 @@ module _ {M : Type 1} {𝓤 : Ura M} (𝓛 : Logic 𝓤) (at_mem : Memory → SP
           rewrite ! 0 (λ (m : ℕ). ‵ ((MutSlice (named 0) κ u8).own_val (x γ zs.0) (slice_val (b, o) m ∷ []))) (sym l) refl $ rewrite ! 28 (λ (m : ℕ). ‵ (fat full_share bytesTy l₁ 0 (slice_val (b, o) m))) (sym l) refl $
           again ! ≺ I t (onward t r zs.0 (ltb→lt t.i n small) (is_false t.st.done on) l (subst (Is Q r) (LL.tells S.the_type S'.the_laws r (w ∷ []) is) is) e) (fewer n t.i (ltb→lt t.i n small)))))))))))))
           (λ off. jumps ! $ forget ! 12 refl $ forget ! 14 refl $ forget ! 16 refl $ by ! (ends t.i t.ms t.st t.long t.is (sym (at_done t.ms t.st ps t.i (ltb→lt t.i n small) (is_true t.st.done off)) ∙ t.so))))
-          (λ big. jumps ! $ forget ! 14 refl $ forget ! 16 refl $ by ! (ends t.i t.ms t.st t.long t.is (sym (at-end t.ms t.st ps t.i t.within (λ l. T_not (ltb t.i n) big (lt→ltb t.i n l))) ∙ t.so)))
+          (λ big. jumps ! $ forget ! 14 refl $ forget ! 16 refl $ by ! (ends t.i t.ms t.st t.long t.is (sym (at_end t.ms t.st ps t.i t.within (λ l. T_not (ltb t.i n) big (lt→ltb t.i n l))) ∙ t.so)))
         where
           rm : Room u8 (length t.ms)
           rm = subst (Room u8) (sym t.long) room

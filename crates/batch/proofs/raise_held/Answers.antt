@@ -7,41 +7,23 @@ use lib.ListN.{length, get_or}
 use Rattle.octets.specs.Over.{over}
 use Rattle.octets.specs.Number.{two, pair}
 use Rattle.batch.specs.Raise.{raised, Raisable}
-use Rattle.batch.proofs.Raised.{raise-start, raise-on, raise-fits, raisable-on, raise-end}
+use Rattle.batch.proofs.Raised.{raise_start, raise_on, raise_fits, raisable_on, raise_end}
 use Rattle.batch.proofs.raise_held.Goals as goal
 
 pub loop-i-init : goal.loop-i-init
 loop-i-init c =
-    let s = raise-start _ _ _ _ c.requires.2 in
+    let s = raise_start _ _ _ _ c.requires.2 in
     (s.0, s.1, refl, omega arith)
-
-pub overflow_mul-to : goal.overflow_mul-to
-overflow_mul-to c = search rules
-
-pub overflow_add-to : goal.overflow_add-to
-overflow_add-to c = search rules
-
-pub overflow_add-to-in-loop-i : goal.overflow_add-to-in-loop-i
-overflow_add-to-in-loop-i c = search rules
 
 pub two_at-held-requires : goal.two_at-held-requires
 two_at-held-requires c =
     omega arith
 
-pub offset_bounds-taken-i : goal.offset_bounds-taken-i
-offset_bounds-taken-i c = search rules
-
-pub bounds-taken-i : goal.bounds-taken-i
-bounds-taken-i c = search rules
-
-pub wide16-requires : goal.wide16-requires
-wide16-requires c = search rules
-
 pub overflow_add-held : goal.overflow_add-held
 overflow_add-held c =
     let a = c.args in
     let l = c.loop-i in
-    let f = raise-fits l.m a.taken.now a.at a.n l.i (omega arith) (omega arith) l.invariant.1 in
+    let f = raise_fits l.m a.taken.now a.at a.n l.i (omega arith) (omega arith) l.invariant.1 in
     let x = c.two_at-held.ensures.0 in
     let y : c.wide16.result ≡ get_or a.taken.now l.i 0 = c.wide16.ensures.0 in
     omega arith
@@ -50,16 +32,10 @@ pub put_two-requires : goal.put_two-requires
 put_two-requires c =
     let a = c.args in
     let l = c.loop-i in
-    let f = raise-fits l.m a.taken.now a.at a.n l.i (omega arith) (omega arith) l.invariant.1 in
+    let f = raise_fits l.m a.taken.now a.at a.n l.i (omega arith) (omega arith) l.invariant.1 in
     let x = c.two_at-held.ensures.0 in
     let y : c.wide16.result ≡ get_or a.taken.now l.i 0 = c.wide16.ensures.0 in
     (omega arith, omega arith)
-
-pub overflow_add-i : goal.overflow_add-i
-overflow_add-i c = search rules
-
-pub loop-i-smaller : goal.loop-i-smaller
-loop-i-smaller c = search rules
 
 pub loop-i-preserved : goal.loop-i-preserved
 loop-i-preserved c =
@@ -70,19 +46,16 @@ loop-i-preserved c =
     let p = c.put_two in
     let t = a.taken.now in
     let to = a.at + 8 * l.i + 6 in
-    let e : p.new.0 ≡ over l.m to (pair (two l.m to + get_or t l.i 0)) = p.ensures ∙ (λ j. over l.m to (pair (x j + y j))) in
-    let on = raise-on l.m t a.at a.n l.i (omega arith) (omega arith) in
-    let fits = raisable-on l.m t a.at a.n l.i (omega arith) (omega arith) (two l.m to + get_or t l.i 0) l.invariant.1 in (
+    let e : c.put_two.new.m ≡ over l.m to (pair (two l.m to + get_or t l.i 0)) = p.ensures ∙ (λ j. over l.m to (pair (x j + y j))) in
+    let on = raise_on l.m t a.at a.n l.i (omega arith) (omega arith) in
+    let fits = raisable_on l.m t a.at a.n l.i (omega arith) (omega arith) (two l.m to + get_or t l.i 0) l.invariant.1 in (
       l.invariant.0 ∙ on ∙ ap (λ (z : List ℕ). raised z t (l.i + 1) (a.at + 8 * (l.i + 1)) (a.n - (l.i + 1))) (sym e),
       subst (λ (z : List ℕ). Raisable z t (l.i + 1) (a.at + 8 * (l.i + 1)) (a.n - (l.i + 1))) (sym e) fits,
       omega (arith, p.auto),
       omega arith,
     )
 
-pub shape_of-m : goal.shape_of-m
-shape_of-m c = search rules
-
 pub returns : goal.returns
 returns c =
     let l = c.loop-i in
-    sym (l.invariant.0 ∙ raise-end _ _ _ _ _ (omega arith))
+    sym (l.invariant.0 ∙ raise_end _ _ _ _ _ (omega arith))

@@ -8,7 +8,7 @@ use lib.ListN.{length, get_or}
 use Rattle.octets.specs.Over.{over}
 use Rattle.octets.specs.Number.{two, pair}
 use Rattle.batch.specs.Raise.{raised, Raisable}
-use Rattle.batch.proofs.Raised.{raise-start, raise-on, raise-fits, raisable-on, raise-end}
+use Rattle.batch.proofs.Raised.{raise_start, raise_on, raise_fits, raisable_on, raise_end}
 use Rattle.batch.proofs.raise_held.Given as goal
 
 abbrev pub invariant-loop-i : goal.invariant-loop-i

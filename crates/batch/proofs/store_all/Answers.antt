@@ -49,12 +49,6 @@ merge-requires c =
       (subst (λ (x : ℕ). Rises 0 (first_places m x)) (sym e) z.rises, subst Ascending (sym s) (sorted_ascending numbers), subst (All (Fits r)) (sym s) (sorted_all (Fits r) numbers z.records)),
     )
 
-pub overflow_mul-k : goal.overflow_mul-k
-overflow_mul-k c = search rules
-
-pub overflow_add-k : goal.overflow_add-k
-overflow_add-k c = search rules
-
 pub raise_held-requires : goal.raise_held-requires
 raise_held-requires c =
     let a = c.args in
@@ -69,7 +63,7 @@ raise_held-requires c =
     let e6 : c.stations_of-stations.result ≡ stations_in m = c.stations_of-stations.ensures.0 in
     let e8 : c.points_of-n.result ≡ points_in m = c.points_of-n.ensures.0 in
     let x = c.merge in
-    let new : x.new.0 ≡ all_merged m r = x.ensures ∙ (λ j. merged m r (s j) (e8 j)) in
+    let new : c.merge.new.m ≡ all_merged m r = x.ensures ∙ (λ j. merged m r (s j) (e8 j)) in
     let most = z.stations in
     let long = z.length_is in
     let raisable = subst (λ (y : ℕ). Raisable (all_merged m r) a.taken.now 0 (stations_from m) y) (sym e6) z.raisable in
@@ -96,9 +90,6 @@ put_two-requires c =
     let long = z.length_is in
     (omega (arith, c.raise_held.auto, c.merge.auto), omega arith)
 
-pub shape_of-m : goal.shape_of-m
-shape_of-m c = search rules
-
 pub returns : goal.returns
 returns c =
     let a = c.args in
@@ -113,6 +104,6 @@ returns c =
     let e6 : c.stations_of-stations.result ≡ stations_in m = c.stations_of-stations.ensures.0 in
     let e8 : c.points_of-n.result ≡ points_in m = c.points_of-n.ensures.0 in
     let x = c.merge in
-    let new : x.new.0 ≡ all_merged m r = x.ensures ∙ (λ j. merged m r (s j) (e8 j)) in
+    let new : c.merge.new.m ≡ all_merged m r = x.ensures ∙ (λ j. merged m r (s j) (e8 j)) in
     let up = c.raise_held.ensures ∙ (λ j. raised (new j) a.taken.now 0 (after_places (e4 j)) (e6 j)) in
     c.put_two.ensures ∙ (λ j. over (up j) points_offset (pair (e8 j + records_in r))) ∙ z.memory

@@ -9,21 +9,12 @@ use Rattle.octets.specs.Number.{two, four}
 use Rattle.batch_records.specs.Records.{has_address}
 use Rattle.batch_records.proofs.has_address.Goals as goal
 
-pub two_at-requires : goal.two_at-requires
-two_at-requires c = search rules
-
 pub returns-then-two_at-ca : goal.returns-then-two_at-ca
 unfolding has_address ◌&◌
 returns-then-two_at-ca c =
     let a = c.args in
     let e : two a.records.now a.at ≡ a.ca → ⊥ = omega arith in
     simp (ne_eqb _ _ e)
-
-pub overflow_add-at : goal.overflow_add-at
-overflow_add-at c = search rules
-
-pub four_at-requires : goal.four_at-requires
-four_at-requires c = search rules
 
 pub returns : goal.returns
 unfolding has_address ◌&◌

@@ -10,25 +10,17 @@ use Rattle.batch_records.proofs.stands_before.Goals as goal
 pub loop-left-init : goal.loop-left-init
 loop-left-init c = (refl, omega arith)
 
-pub overflow_sub-left : goal.overflow_sub-left
-overflow_sub-left c = search rules
-
-pub overflow_mul-left : goal.overflow_mul-left
-overflow_mul-left c = search rules
-
 pub has_address-requires : goal.has_address-requires
 has_address-requires c = omega arith
 
 pub returns-then-has_address : goal.returns-then-has_address
 returns-then-has_address c = sym (c.loop-left.invariant.0 ∙ stands_hit _ _ _ _ (omega arith) (sym c.has_address.ensures ∙ c.if-has_address.true))
 
-pub loop-left-smaller : goal.loop-left-smaller
-loop-left-smaller c = search rules
-
 pub loop-left-preserved : goal.loop-left-preserved
 loop-left-preserved c = (
   c.loop-left.invariant.0 ∙ stands_on _ _ _ _ (omega arith) (sym c.has_address.ensures ∙ c.if-has_address.false),
   omega arith,
+)
 
 pub returns : goal.returns
 returns c = sym (c.loop-left.invariant.0 ∙ stands_end _ _ _ _ (omega arith))

@@ -7,30 +7,6 @@ use Rattle.limits.specs.Share.{unmet_of}
 use Rattle.batch_room.specs.Room.{standing_of}
 use Rattle.batch_room.proofs.ask.Goals as goal
 
-pub admission-answer-requires : goal.admission-answer-requires
-admission-answer-requires c = search rules
-
-pub take_in-more-requires : goal.take_in-more-requires
-take_in-more-requires c = search rules
-
-pub unmet-requires : goal.unmet-requires
-unmet-requires c = search rules
-
-pub unmet-requires-2 : goal.unmet-requires-2
-unmet-requires-2 c = search rules
-
-pub without-met-requires : goal.without-met-requires
-without-met-requires c = search rules
-
-pub outcome_of-outcome-requires : goal.outcome_of-outcome-requires
-outcome_of-outcome-requires c = search rules
-
-pub without-requires : goal.without-requires
-without-requires c = search rules
-
-pub without-requires-2 : goal.without-requires-2
-without-requires-2 c = search rules
-
 pub returns : goal.returns
 unfolding standing_of
 returns c =

@@ -10,27 +10,6 @@ use Rattle.batch_room.specs.Room.{room_run, taken_run}
 use Rattle.batch_room.proofs.Laws.{room_fresh, took_in}
 use Rattle.batch_room.proofs.room_tests.Goals as goal
 
-pub capacity_of-k-requires : goal.capacity_of-k-requires
-capacity_of-k-requires c = search rules
-
-pub stations_of-n-requires : goal.stations_of-n-requires
-stations_of-n-requires c = search rules
-
-pub overflow_mul-k : goal.overflow_mul-k
-overflow_mul-k c = search rules
-
-pub overflow_add-k : goal.overflow_add-k
-overflow_add-k c = search rules
-
-pub add_up-sums-requires : goal.add_up-sums-requires
-add_up-sums-requires c = search rules
-
-pub without-requires : goal.without-requires
-without-requires c = search rules
-
-pub turns-requires : goal.turns-requires
-turns-requires c = search rules
-
 pub returns : goal.returns
 returns c =
     let a = c.args in

@@ -8,12 +8,6 @@ use Rattle.layout.specs.Layout.{ceiling_offset}
 use Rattle.batch_room.specs.Room.{share_with}
 use Rattle.batch_room.proofs.share_with.Goals as goal
 
-pub share_at-share-requires : goal.share_at-share-requires
-share_at-share-requires c = search rules
-
-pub overflow_add-result : goal.overflow_add-result
-overflow_add-result c = search rules
-
 pub returns : goal.returns
 unfolding share_with
 returns c =

@@ -12,22 +12,13 @@ use Rattle.lookup.specs.Seats.{seat_at}
 use Rattle.lookup.specs.declared.Seat.TheVariants.{Here}
 use Rattle.batch_room.specs.declared.Standing.{Standing}
 use Rattle.batch_room.specs.Room.{share_with, station_at, standing_of}
-use Rattle.batch_room.proofs.Laws.{seat_inside, done_below, turn-unplanned, turn-refused, turn-done}
+use Rattle.batch_room.proofs.Laws.{seat_inside, done_below, turn_unplanned, turn_refused, turn_done}
 use Rattle.batch_room.proofs.turn.Goals as goal
-
-pub seat_at-seat-requires : goal.seat_at-seat-requires
-seat_at-seat-requires c = search rules
-
-pub enum_known-seat : goal.enum_known-seat
-enum_known-seat c = search rules
-
-pub enum_told-1 : goal.enum_told-1
-enum_told-1 c = search rules
 
 pub returns-in_default : goal.returns-in_default
 returns-in_default c =
     let a = c.args in
-    turn-unplanned a.m.now a.taken.now a.ca a.free a.unmet (sym c.seat_at-seat.ensures ∙ c.in_default.is)
+    turn_unplanned a.m.now a.taken.now a.ca a.free a.unmet (sym c.seat_at-seat.ensures ∙ c.in_default.is)
 
 pub station_at-station-requires : goal.station_at-station-requires
 station_at-station-requires c =
@@ -55,37 +46,29 @@ share_with-share-requires c =
     let room = c.requires.1 in
     omega arith
 
-pub ask-standing-requires : goal.ask-standing-requires
-ask-standing-requires c = search rules
-
-pub is_done-requires : goal.is_done-requires
-is_done-requires c = search rules
-
 pub returns-then-not-is_done : goal.returns-then-not-is_done
 returns-then-not-is_done c =
     let a = c.args in
     let m = a.m.now in
-    let g = at-seat.seat.given in
-    let e : seat_at m a.ca ≡ Here g.0.0 g.0.1.0 g.0.1.1.0 = sym c.seat_at-seat.ensures ∙ g.1 in
-    let taken = get_or a.taken.now g.0.0 0 in
-    let s : c.share_with-share.result ≡ share_with m (station_at m g.0.0) taken = c.share_with-share.ensures.0 ∙ ap (λ (x : ℕ). share_with m x taken) c.station_at-station.ensures in
-    let x : c.ask-standing.result ≡ standing_of (share_with m (station_at m g.0.0) taken) a.free a.unmet = c.ask-standing.ensures ∙ ap (λ (y : Share). standing_of y a.free a.unmet) s in
-    turn-refused m a.taken.now a.ca a.free a.unmet g.0.0 g.0.1.0 g.0.1.1.0 e c.ask-standing.result x (sym c.is_done.ensures ∙ not-true _ c.if-not-is_done.true)
+    let e : seat_at m a.ca ≡ Here c.in-Here.index c.in-Here.field-1 c.in-Here.field-2 = sym c.seat_at-seat.ensures ∙ c.in-Here.is in
+    let taken = get_or a.taken.now c.in-Here.index 0 in
+    let s : c.share_with-share.result ≡ share_with m (station_at m c.in-Here.index) taken = c.share_with-share.ensures.0 ∙ ap (λ (x : ℕ). share_with m x taken) c.station_at-station.ensures in
+    let x : c.ask-standing.result ≡ standing_of (share_with m (station_at m c.in-Here.index) taken) a.free a.unmet = c.ask-standing.ensures ∙ ap (λ (y : Share). standing_of y a.free a.unmet) s in
+    turn_refused m a.taken.now a.ca a.free a.unmet c.in-Here.index c.in-Here.field-1 c.in-Here.field-2 e c.ask-standing.result x (sym c.is_done.ensures ∙ c.if-not-is_done.true)
 
 pub overflow_add-taken : goal.overflow_add-taken
 unfolding share_with
 overflow_add-taken c =
     let a = c.args in
     let m = a.m.now in
-    let g = at-seat.seat.given in
-    let e : seat_at m a.ca ≡ Here g.0.0 g.0.1.0 g.0.1.1.0 = sym c.seat_at-seat.ensures ∙ g.1 in
-    let taken = get_or a.taken.now g.0.0 0 in
-    let s : c.share_with-share.result ≡ share_with m (station_at m g.0.0) taken = c.share_with-share.ensures.0 ∙ ap (λ (x : ℕ). share_with m x taken) c.station_at-station.ensures in
-    let x : c.ask-standing.result ≡ standing_of (share_with m (station_at m g.0.0) taken) a.free a.unmet = c.ask-standing.ensures ∙ ap (λ (y : Share). standing_of y a.free a.unmet) s in
-    let d : is_done c.ask-standing.result.outcome ≡ true = sym c.is_done.ensures ∙ not-false _ c.if-not-is_done.false in
-    let b : (share_with m (station_at m g.0.0) taken).held < (share_with m (station_at m g.0.0) taken).ceiling =
-    done_below (share_with m (station_at m g.0.0) taken) a.free a.unmet (ap (λ (y : Standing). is_done y.outcome) (sym x) ∙ d) in
-    let l : (share_with m (station_at m g.0.0) taken).ceiling < 65536 = subst (λ (y : Share). y.ceiling < 65536) s c.share_with-share.ensures.1 in
+    let e : seat_at m a.ca ≡ Here c.in-Here.index c.in-Here.field-1 c.in-Here.field-2 = sym c.seat_at-seat.ensures ∙ c.in-Here.is in
+    let taken = get_or a.taken.now c.in-Here.index 0 in
+    let s : c.share_with-share.result ≡ share_with m (station_at m c.in-Here.index) taken = c.share_with-share.ensures.0 ∙ ap (λ (x : ℕ). share_with m x taken) c.station_at-station.ensures in
+    let x : c.ask-standing.result ≡ standing_of (share_with m (station_at m c.in-Here.index) taken) a.free a.unmet = c.ask-standing.ensures ∙ ap (λ (y : Share). standing_of y a.free a.unmet) s in
+    let d : is_done c.ask-standing.result.outcome ≡ true = sym c.is_done.ensures ∙ c.if-not-is_done.false in
+    let b : (share_with m (station_at m c.in-Here.index) taken).held < (share_with m (station_at m c.in-Here.index) taken).ceiling =
+    done_below (share_with m (station_at m c.in-Here.index) taken) a.free a.unmet (ap (λ (y : Standing). is_done y.outcome) (sym x) ∙ d) in
+    let l : (share_with m (station_at m c.in-Here.index) taken).ceiling < 65536 = subst (λ (y : Share). y.ceiling < 65536) s c.share_with-share.ensures.1 in
     record { fits = omega arith }
 
 pub offset_bounds-taken-index-2 : goal.offset_bounds-taken-index-2
@@ -104,9 +87,8 @@ pub returns : goal.returns
 returns c =
     let a = c.args in
     let m = a.m.now in
-    let g = at-seat.seat.given in
-    let e : seat_at m a.ca ≡ Here g.0.0 g.0.1.0 g.0.1.1.0 = sym c.seat_at-seat.ensures ∙ g.1 in
-    let taken = get_or a.taken.now g.0.0 0 in
-    let s : c.share_with-share.result ≡ share_with m (station_at m g.0.0) taken = c.share_with-share.ensures.0 ∙ ap (λ (x : ℕ). share_with m x taken) c.station_at-station.ensures in
-    let x : c.ask-standing.result ≡ standing_of (share_with m (station_at m g.0.0) taken) a.free a.unmet = c.ask-standing.ensures ∙ ap (λ (y : Share). standing_of y a.free a.unmet) s in
-    turn-done m a.taken.now a.ca a.free a.unmet g.0.0 g.0.1.0 g.0.1.1.0 e c.ask-standing.result x (sym c.is_done.ensures ∙ not-false _ c.if-not-is_done.false)
+    let e : seat_at m a.ca ≡ Here c.in-Here.index c.in-Here.field-1 c.in-Here.field-2 = sym c.seat_at-seat.ensures ∙ c.in-Here.is in
+    let taken = get_or a.taken.now c.in-Here.index 0 in
+    let s : c.share_with-share.result ≡ share_with m (station_at m c.in-Here.index) taken = c.share_with-share.ensures.0 ∙ ap (λ (x : ℕ). share_with m x taken) c.station_at-station.ensures in
+    let x : c.ask-standing.result ≡ standing_of (share_with m (station_at m c.in-Here.index) taken) a.free a.unmet = c.ask-standing.ensures ∙ ap (λ (y : Share). standing_of y a.free a.unmet) s in
+    turn_done m a.taken.now a.ca a.free a.unmet c.in-Here.index c.in-Here.field-1 c.in-Here.field-2 e c.ask-standing.result x (sym c.is_done.ensures ∙ c.if-not-is_done.false)

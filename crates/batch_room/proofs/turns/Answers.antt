@@ -8,23 +8,14 @@ use Rattle.model.specs.Request.{requests_at}
 use Rattle.batch_records.specs.Records.{requests_in}
 use Rattle.lookup.specs.Seats.{seat_at}
 use Rattle.batch_room.specs.Room.{standing_at, taken_at, room_run, taken_run}
-use Rattle.batch_room.proofs.Laws.{run-start, run_on_lem, run-stop, run_end, taken_start, taken-on, taken-stop, taken-end}
+use Rattle.batch_room.proofs.Laws.{run_start, run_on_lem, run_stop, run_end, taken_start, taken_on, taken_stop, taken_end}
 use Rattle.batch_room.proofs.turns.Goals as goal
 
 pub loop-i-init : goal.loop-i-init
-loop-i-init c = (run-start _ _ _ _ _ 0 _, taken_start _ _ _ _ _ 0 _, omega arith, omega arith)
-
-pub overflow_mul-i : goal.overflow_mul-i
-overflow_mul-i c = search rules
+loop-i-init c = (run_start _ _ _ _ _ 0 _, taken_start _ _ _ _ _ 0 _, omega arith, omega arith)
 
 pub two_at-ca-requires : goal.two_at-ca-requires
 two_at-ca-requires c = omega arith
-
-pub turn-standing-requires : goal.turn-standing-requires
-turn-standing-requires c = search rules
-
-pub is_done-requires : goal.is_done-requires
-is_done-requires c = search rules
 
 pub returns-then-not-is_done : goal.returns-then-not-is_done
 returns-then-not-is_done c =
@@ -34,16 +25,10 @@ returns-then-not-is_done c =
     let t = c.turn-standing in
     let s = t.ensures.0 ∙ ap (λ (x : ℕ). standing_at a.m.now l.taken (seat_at a.m.now x) l.free-now l.unmet-now) k in
     let u = t.ensures.1 ∙ ap (λ (x : ℕ). taken_at a.m.now l.taken (seat_at a.m.now x) l.free-now l.unmet-now) k in
-    let d = sym c.is_done.ensures ∙ not-true _ c.if-not-is_done.true in (
-      sym (l.invariant.0 ∙ run-stop _ _ _ _ _ _ _ (omega arith) t.result s d),
-      u ∙ sym (l.invariant.1 ∙ taken-stop _ _ _ _ _ _ _ (omega arith) t.result s d),
+    let d = sym c.is_done.ensures ∙ c.if-not-is_done.true in (
+      sym (l.invariant.0 ∙ run_stop _ _ _ _ _ _ _ (omega arith) t.result s d),
+      u ∙ sym (l.invariant.1 ∙ taken_stop _ _ _ _ _ _ _ (omega arith) t.result s d),
     )
-
-pub overflow_add-i : goal.overflow_add-i
-overflow_add-i c = search rules
-
-pub loop-i-smaller : goal.loop-i-smaller
-loop-i-smaller c = search rules
 
 pub loop-i-preserved : goal.loop-i-preserved
 loop-i-preserved c =
@@ -53,9 +38,9 @@ loop-i-preserved c =
     let t = c.turn-standing in
     let s = t.ensures.0 ∙ ap (λ (x : ℕ). standing_at a.m.now l.taken (seat_at a.m.now x) l.free-now l.unmet-now) k in
     let u = t.ensures.1 ∙ ap (λ (x : ℕ). taken_at a.m.now l.taken (seat_at a.m.now x) l.free-now l.unmet-now) k in
-    let d = sym c.is_done.ensures ∙ not-false _ c.if-not-is_done.false in (
+    let d = sym c.is_done.ensures ∙ c.if-not-is_done.false in (
       l.invariant.0 ∙ run_on_lem _ _ _ _ _ _ _ (omega arith) t.result s _ u d,
-      l.invariant.1 ∙ taken-on _ _ _ _ _ _ _ (omega arith) t.result s _ u d,
+      l.invariant.1 ∙ taken_on _ _ _ _ _ _ _ (omega arith) t.result s _ u d,
       omega arith,
       omega arith,
     )
@@ -63,4 +48,4 @@ loop-i-preserved c =
 pub returns : goal.returns
 returns c =
     let l = c.loop-i in
-    (sym (l.invariant.0 ∙ run_end _ _ _ _ _ _ _ (omega arith)), sym (l.invariant.1 ∙ taken-end _ _ _ _ _ _ _ (omega arith)))
+    (sym (l.invariant.0 ∙ run_end _ _ _ _ _ _ _ (omega arith)), sym (l.invariant.1 ∙ taken_end _ _ _ _ _ _ _ (omega arith)))

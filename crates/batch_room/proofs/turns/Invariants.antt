@@ -9,7 +9,7 @@ use Rattle.model.specs.Request.{requests_at}
 use Rattle.batch_records.specs.Records.{requests_in}
 use Rattle.lookup.specs.Seats.{seat_at}
 use Rattle.batch_room.specs.Room.{standing_at, taken_at, room_run, taken_run}
-use Rattle.batch_room.proofs.Laws.{run-start, run_on_lem, run-stop, run_end, taken_start, taken-on, taken-stop, taken-end}
+use Rattle.batch_room.proofs.Laws.{run_start, run_on_lem, run_stop, run_end, taken_start, taken_on, taken_stop, taken_end}
 use Rattle.batch_room.proofs.turns.Given as goal
 
 abbrev pub invariant-loop-i : goal.invariant-loop-i

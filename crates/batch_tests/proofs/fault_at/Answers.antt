@@ -21,21 +21,20 @@ use Rattle.registry.specs.Registry.{stands_in}
 use Rattle.batch_records.specs.Records.{earlier_at, stands_before}
 use Rattle.batch_records.proofs.Laws.{stands_law}
 use Rattle.batch_tests.specs.Tests.{is_held}
-use Rattle.batch_tests.proofs.Laws.{fault_unplanned, fault-own, fault-twice, fault-known, fault-none, held_known}
+use Rattle.batch_tests.proofs.Laws.{fault_unplanned, fault_own, fault_twice, fault_known, fault_none, held_known}
 use Rattle.batch_tests.proofs.fault_at.Goals as goal
-use Rattle.batch_tests.proofs.fault_at.Goals.{After-is_done, After-is_held, After-own_fault-own, After-stands_flagged, In-Here-2}
+use Rattle.batch_tests.proofs.fault_at.Goals.{After-is_done, After-is_held, After-own_fault-own, After-stands_flagged, In-Here-2, Start}
 
 -- the record's request, and the requests before it
-abbrev requestIn : tie.Start → Request
+abbrev requestIn : Start → Request
 requestIn s = request_at s.args.records.now (24 * s.args.i)
 
-abbrev earlierIn : tie.Start → List Request
+abbrev earlierIn : Start → List Request
 earlierIn s = earlier_at s.args.records.now s.args.i
 
 -- the station's seat
 seen : (c : In-Here-2) →
-    let g = c.seat-1.given.0 in
-    Seen c.args.m.now (requestIn c.before.before.before.before.before.before.before.before).ca g.0 g.1.0 g.1.1.0
+    Seen c.args.m.now (requestIn c.before.before.before.before.before.before.before.before).ca c.in-Here.field-0 c.in-Here.first c.in-Here.held
 seen c =
     let m = c.args.m.now in
     let o : Octets m = λ j. omega (arith, c.shared_slice_known-1.given j) in
@@ -46,8 +45,8 @@ own : (c : After-own_fault-own) → c.own_fault-own.result ≡ own_fault true (r
 own c =
     c.own_fault-own.ensures ∙ ap (own_fault true) c.request_at-request.ensures
 
-own-done : (c : After-is_done) → is_done (own_fault true (requestIn c.before.before.before.before.before.before.before.before.before.before.before)) ≡ c.is_done.result
-own-done c = sym (c.is_done.ensures ∙ ap is_done (own c.before))
+own_done : (c : After-is_done) → is_done (own_fault true (requestIn c.before.before.before.before.before.before.before.before.before.before.before)) ≡ c.is_done.result
+own_done c = sym (c.is_done.ensures ∙ ap is_done (own c.before))
 
 -- whether an earlier record has its address
 stands : (c : After-stands_flagged) →
@@ -58,40 +57,15 @@ stands c =
 
 -- whether the station holds its address
 holds : (c : After-is_held) →
-    known (requestIn c.before.before.before.before.before.before.before.before.before.before.before.before.before.before.before).ioa (seen c.before.before.before.before.before.before.before).seat.s.points ≡ c.is_held_lem.result
+    known (requestIn c.before.before.before.before.before.before.before.before.before.before.before.before.before.before.before).ioa (seen c.before.before.before.before.before.before.before).seat.s.points ≡ c.is_held.result
 holds c =
-    let g = at-seat.seat.given.0 in
     sym (held_known c.args.m.now _ _ _ _ (requestIn c.before.before.before.before.before.before.before.before.before.before.before.before.before.before.before).ioa (seen c.before.before.before.before.before.before.before))
-    ∙ ap (λ (x : ℕ). is_held (find_at c.args.m.now g.1.0 g.1.1.0 x)) (sym c.four_at-ioa.ensures.0) ∙ sym c.is_held_lem.ensures
-
-pub overflow_mul-at : goal.overflow_mul-at
-overflow_mul-at c = search rules
-
-pub request_at-request-requires : goal.request_at-request-requires
-request_at-request-requires c = search rules
-
-pub two_at-ca-requires : goal.two_at-ca-requires
-two_at-ca-requires c = search rules
-
-pub overflow_add-at : goal.overflow_add-at
-overflow_add-at c = search rules
-
-pub four_at-ioa-requires : goal.four_at-ioa-requires
-four_at-ioa-requires c = search rules
+    ∙ ap (λ (x : ℕ). is_held (find_at c.args.m.now c.in-Here.first c.in-Here.held x)) (sym c.four_at-ioa.ensures.0) ∙ sym c.is_held.ensures
 
 pub seat_at-seat-requires : goal.seat_at-seat-requires
 seat_at-seat-requires c =
     let p = (passed c.args.m.now c.requires.0).top in
     (p.s_high, p.room)
-
-pub enum_known-seat : goal.enum_known-seat
-enum_known-seat c = search rules
-
-pub enum_told-1 : goal.enum_told-1
-enum_told-1 c = search rules
-
-pub own_fault-requires : goal.own_fault-requires
-own_fault-requires c = search rules
 
 pub returns-in_default : goal.returns-in_default
 returns-in_default c =
@@ -100,16 +74,10 @@ returns-in_default c =
     let none-there : seat_at m q.ca ≡ NotPlanned = ap (seat_at m) (sym c.two_at-ca.ensures.0) ∙ sym c.seat_at-seat.ensures ∙ c.in_default.is in
     c.own_fault.ensures ∙ ap (own_fault false) c.request_at-request.ensures ∙ fault_unplanned (table_of m) (earlierIn (goal.at.returns-in_default c).Start) q (absent_law m q.ca none-there)
 
-pub own_fault-own-requires : goal.own_fault-own-requires
-own_fault-own-requires c = search rules
-
-pub is_done-requires : goal.is_done-requires
-is_done-requires c = search rules
-
 pub returns-then-not-is_done : goal.returns-then-not-is_done
 returns-then-not-is_done c =
     let s = (seen (goal.at.returns-then-not-is_done c).In-Here-2).seat in
-    own (goal.at.returns-then-not-is_done c).After-own_fault-own ∙ fault-own (table_of c.args.m.now) (earlierIn (goal.at.returns-then-not-is_done c).Start) (requestIn (goal.at.returns-then-not-is_done c).Start) s.s s.is_station (own-done (goal.at.returns-then-not-is_done c).After-is_done ∙ not-true _ c.if-not-is_done.true)
+    own (goal.at.returns-then-not-is_done c).After-own_fault-own ∙ fault_own (table_of c.args.m.now) (earlierIn (goal.at.returns-then-not-is_done c).Start) (requestIn (goal.at.returns-then-not-is_done c).Start) s.s s.is_station (own_done (goal.at.returns-then-not-is_done c).After-is_done ∙ c.if-not-is_done.true)
 
 pub stands_flagged-requires : goal.stands_flagged-requires
 stands_flagged-requires c =
@@ -118,7 +86,7 @@ stands_flagged-requires c =
 pub returns-then-stands_flagged : goal.returns-then-stands_flagged
 returns-then-stands_flagged c =
     let s = (seen (goal.at.returns-then-stands_flagged c).In-Here-2).seat in
-    fault-twice (table_of c.args.m.now) (earlierIn (goal.at.returns-then-stands_flagged c).Start) (requestIn (goal.at.returns-then-stands_flagged c).Start) s.s s.is_station (own-done (goal.at.returns-then-stands_flagged c).After-is_done ∙ not-false _ c.if-not-is_done.false) (stands (goal.at.returns-then-stands_flagged c).After-stands_flagged ∙ c.if-stands_flagged.true)
+    fault_twice (table_of c.args.m.now) (earlierIn (goal.at.returns-then-stands_flagged c).Start) (requestIn (goal.at.returns-then-stands_flagged c).Start) s.s s.is_station (own_done (goal.at.returns-then-stands_flagged c).After-is_done ∙ c.if-not-is_done.false) (stands (goal.at.returns-then-stands_flagged c).After-stands_flagged ∙ c.if-stands_flagged.true)
 
 pub is_held-requires : goal.is_held-requires
 is_held-requires c =
@@ -131,9 +99,9 @@ is_held-requires c =
 pub returns-then-is_held : goal.returns-then-is_held
 returns-then-is_held c =
     let s = (seen (goal.at.returns-then-is_held c).In-Here-2).seat in
-    fault-known (table_of c.args.m.now) (earlierIn (goal.at.returns-then-is_held c).Start) (requestIn (goal.at.returns-then-is_held c).Start) s.s s.is_station (own-done (goal.at.returns-then-is_held c).After-is_done ∙ not-false _ c.if-not-is_done.false) (stands (goal.at.returns-then-is_held c).After-stands_flagged ∙ c.if-stands_flagged.false) (holds (goal.at.returns-then-is_held c).After-is_held ∙ c.if-is_held.true)
+    fault_known (table_of c.args.m.now) (earlierIn (goal.at.returns-then-is_held c).Start) (requestIn (goal.at.returns-then-is_held c).Start) s.s s.is_station (own_done (goal.at.returns-then-is_held c).After-is_done ∙ c.if-not-is_done.false) (stands (goal.at.returns-then-is_held c).After-stands_flagged ∙ c.if-stands_flagged.false) (holds (goal.at.returns-then-is_held c).After-is_held ∙ c.if-is_held.true)
 
 pub returns : goal.returns
 returns c =
     let s = (seen (goal.at.returns c).In-Here-2).seat in
-    fault-none (table_of c.args.m.now) (earlierIn (goal.at.returns c).Start) (requestIn (goal.at.returns c).Start) s.s s.is_station (own-done (goal.at.returns c).After-is_done ∙ not-false _ c.if-not-is_done.false) (stands (goal.at.returns c).After-stands_flagged ∙ c.if-stands_flagged.false) (holds (goal.at.returns c).After-is_held ∙ c.if-is_held.false)
+    fault_none (table_of c.args.m.now) (earlierIn (goal.at.returns c).Start) (requestIn (goal.at.returns c).Start) s.s s.is_station (own_done (goal.at.returns c).After-is_done ∙ c.if-not-is_done.false) (stands (goal.at.returns c).After-stands_flagged ∙ c.if-stands_flagged.false) (holds (goal.at.returns c).After-is_held ∙ c.if-is_held.false)

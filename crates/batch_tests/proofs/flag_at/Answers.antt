@@ -4,18 +4,6 @@ use mathlib.Core.Path.{ap₂, ◌∙◌}
 use Rattle.batch_tests.specs.Tests.{address_flag, flag_at}
 use Rattle.batch_tests.proofs.flag_at.Goals as goal
 
-pub two_at-ca-requires : goal.two_at-ca-requires
-two_at-ca-requires c = search rules
-
-pub overflow_add-at : goal.overflow_add-at
-overflow_add-at c = search rules
-
-pub four_at-ioa-requires : goal.four_at-ioa-requires
-four_at-ioa-requires c = search rules
-
-pub flag_of-requires : goal.flag_of-requires
-flag_of-requires c = search rules
-
 pub returns : goal.returns
 unfolding flag_at
 returns c =

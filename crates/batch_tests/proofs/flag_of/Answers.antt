@@ -5,12 +5,6 @@ use mathlib.Core.Path.{refl}
 use Rattle.batch_tests.specs.Tests.{address_flag}
 use Rattle.batch_tests.proofs.flag_of.Goals as goal
 
-pub overflow_mul-result : goal.overflow_mul-result
-overflow_mul-result c = search rules
-
-pub overflow_add-result : goal.overflow_add-result
-overflow_add-result c = search rules
-
 pub returns : goal.returns
 unfolding address_flag
 returns c = (refl, omega arith)

@@ -4,15 +4,6 @@ use mathlib.Core.Path.{sym, ap, ◌∙◌}
 use Rattle.batch_tests.specs.Tests.{is_held}
 use Rattle.batch_tests.proofs.is_held.Goals as goal
 
-pub find-spot-requires : goal.find-spot-requires
-find-spot-requires c = search rules
-
-pub enum_told-1 : goal.enum_told-1
-enum_told-1 c = search rules
-
-pub enum_told-in-Missing : goal.enum_told-in-Missing
-enum_told-in-Missing c = search rules
-
 pub returns-in-Held : goal.returns-in-Held
 returns-in-Held c = sym (ap is_held (sym c.find-spot.ensures ∙ c.in-Held.is))
 

@@ -5,9 +5,3 @@ use Rattle.batch_tests.proofs.stands_flagged.Goals as goal
 
 pub returns-then-flag-eq0 : goal.returns-then-flag-eq0
 returns-then-flag-eq0 c = sym (c.requires.1 c.if-flag-eq0.true)
-
-pub stands_before-requires : goal.stands_before-requires
-stands_before-requires c = search rules
-
-pub returns : goal.returns
-returns c = search rules

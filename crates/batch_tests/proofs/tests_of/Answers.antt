@@ -13,23 +13,17 @@ use Rattle.registry.specs.Registry.{own_tests}
 use Rattle.batch_records.specs.Records.{requests_in, earlier_at}
 use Rattle.batch_tests.proofs.Flags.{Marked, marked_on, asked_says}
 use Rattle.batch_tests.proofs.Flags.Marked.{none_marked}
-use Rattle.batch_tests.proofs.Laws.{own_on, own-stop, own-end, own_start}
+use Rattle.batch_tests.proofs.Laws.{own_on, own_stop, own_end, own_start}
 use Rattle.batch_tests.proofs.tests_of.Goals as goal
 
 pub loop-i-init : goal.loop-i-init
 loop-i-init c = (own_start _ _, none_marked, c.requires.1, omega arith, omega arith)
-
-pub overflow_mul-i : goal.overflow_mul-i
-overflow_mul-i c = search rules
 
 pub flag_at-k-requires : goal.flag_at-k-requires
 flag_at-k-requires c = omega arith
 
 pub bounds-flags-k : goal.bounds-flags-k
 bounds-flags-k c = let k = c.flag_at-k.ensures.1 in omega arith
-
-pub flag_asked-requires : goal.flag_asked-requires
-flag_asked-requires c = search rules
 
 pub fault_at-outcome-requires : goal.fault_at-outcome-requires
 fault_at-outcome-requires c =
@@ -38,35 +32,26 @@ fault_at-outcome-requires c =
     let l = c.loop-i in
     (p.0, omega arith, asked_says l.flags a.records.now a.apart _ _ _ l.i c.flag_asked.ensures c.flag_at-k.ensures.0 l.invariant.1 p.2 (omega arith))
 
-pub is_done-requires : goal.is_done-requires
-is_done-requires c = search rules
-
 pub returns-then-not-is_done : goal.returns-then-not-is_done
 returns-then-not-is_done c =
     let l = c.loop-i in
     let f = c.fault_at-outcome.ensures in
-    let d = sym (c.is_done.ensures ∙ ap is_done f) ∙ not-true _ c.if-not-is_done.true in
-    sym (l.invariant.0 ∙ own-stop _ _ _ _ (omega arith) d ∙ ap (λ (o : Outcome). record { outcome = o; place = l.i }) (sym f))
+    let d = sym (c.is_done.ensures ∙ ap is_done f) ∙ c.if-not-is_done.true in
+    sym (l.invariant.0 ∙ own_stop _ _ _ _ (omega arith) d ∙ ap (λ (o : Outcome). record { outcome = o; place = l.i }) (sym f))
 
 pub bounds-flags-k-in-loop-i : goal.bounds-flags-k-in-loop-i
 bounds-flags-k-in-loop-i c =
     let k = c.flag_at-k.ensures.1 in omega arith
-
-pub overflow_add-i : goal.overflow_add-i
-overflow_add-i c = search rules
-
-pub loop-i-smaller : goal.loop-i-smaller
-loop-i-smaller c = search rules
 
 pub loop-i-preserved : goal.loop-i-preserved
 loop-i-preserved c =
     let l = c.loop-i in
     let f = c.fault_at-outcome.ensures in
     let k = c.flag_at-k in
-    let d = sym (c.is_done.ensures ∙ ap is_done f) ∙ not-false _ c.if-not-is_done.false in
+    let d = sym (c.is_done.ensures ∙ ap is_done f) ∙ c.if-not-is_done.false in
     let h : length l.flags ≡ 16384 = l.invariant.2 in
     let below : k.result < 16384 = k.ensures.1 in
     (l.invariant.0 ∙ own_on _ _ _ _ (omega arith) d, marked_on _ _ _ _ k.ensures.0 (omega arith) l.invariant.1, length-set l.flags k.result 1 ∙ h, omega arith, omega arith)
 
 pub returns : goal.returns
-returns c = let l = c.loop-i in sym (l.invariant.0 ∙ own-end _ _ _ _ (omega arith))
+returns c = let l = c.loop-i in sym (l.invariant.0 ∙ own_end _ _ _ _ (omega arith))

@@ -15,7 +15,7 @@ use Rattle.registry.specs.Registry.{own_tests}
 use Rattle.batch_records.specs.Records.{requests_in, earlier_at}
 use Rattle.batch_tests.proofs.Flags.{Marked, marked_on, asked_says}
 use Rattle.batch_tests.proofs.Flags.Marked.{none_marked}
-use Rattle.batch_tests.proofs.Laws.{own_on, own-stop, own-end, own_start}
+use Rattle.batch_tests.proofs.Laws.{own_on, own_stop, own_end, own_start}
 use Rattle.batch_tests.proofs.tests_of.Given as goal
 
 abbrev pub invariant-loop-i : goal.invariant-loop-i

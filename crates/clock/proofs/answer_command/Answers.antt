@@ -11,21 +11,6 @@ use borrow.Author.Rules.{rules}
 use native.Mathlib.Omega.{arith}
 use Rattle.clock.proofs.answer_command.Goals as goal
 
-pub octets_of-flat-requires : goal.octets_of-flat-requires
-octets_of-flat-requires c = search rules
-
-pub system_command-said-requires : goal.system_command-said-requires
-system_command-said-requires c = search rules
-
-pub clock_of-requires : goal.clock_of-requires
-clock_of-requires c = search rules
-
-pub shape_of-table : goal.shape_of-table
-shape_of-table c = search rules
-
-pub shape_of-answer : goal.shape_of-answer
-shape_of-answer c = search rules
-
 pub returns : goal.returns
 returns c =
     let a = c.args in
@@ -38,5 +23,5 @@ returns c =
     let e = said.ensures in
     let flagged = subst Flagged (sym (ap (λ (z : Lent). z.clock) e.leaves)) (flagged_after a.asdu.now (lent a.table.now flat a.answer.now []) (subst Flagged (sym k) w)) in
     let back : octets_of c.clock_of.result ≡ said.result.clock = ap octets_of c.clock_of.ensures.0 ∙ same_octets said.result.clock c.clock_of.ensures.1 flagged in
-    subst (λ (x : List ℕ). Leaves as_it_is (system_said x a.asdu.now) (lent a.table.now x a.answer.now []) said.result.answered (lent said.new.0 (octets_of c.clock_of.result) said.new.1.1.1.0 [])) k
-    (record { answers = e.answers; leaves = (λ j. lent said.new.0 (back j) said.new.1.1.1.0 []) ∙ e.leaves })
+    subst (λ (x : List ℕ). Leaves as_it_is (system_said x a.asdu.now) (lent a.table.now x a.answer.now []) said.result.answered (lent c.system_command-said.new.table (octets_of c.clock_of.result) c.system_command-said.new.answer [])) k
+    (record { answers = e.answers; leaves = (λ j. lent c.system_command-said.new.table (back j) c.system_command-said.new.answer []) ∙ e.leaves })

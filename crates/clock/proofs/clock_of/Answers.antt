@@ -11,30 +11,6 @@ use borrow.Author.Rules.{rules}
 use native.Mathlib.Omega.{arith}
 use Rattle.clock.proofs.clock_of.Goals as goal
 
-pub bounds-flat-0 : goal.bounds-flat-0
-bounds-flat-0 c = search rules
-
-pub bounds-flat-1 : goal.bounds-flat-1
-bounds-flat-1 c = search rules
-
-pub bounds-flat-2 : goal.bounds-flat-2
-bounds-flat-2 c = search rules
-
-pub bounds-flat-3 : goal.bounds-flat-3
-bounds-flat-3 c = search rules
-
-pub bounds-flat-4 : goal.bounds-flat-4
-bounds-flat-4 c = search rules
-
-pub bounds-flat-5 : goal.bounds-flat-5
-bounds-flat-5 c = search rules
-
-pub bounds-flat-6 : goal.bounds-flat-6
-bounds-flat-6 c = search rules
-
-pub bounds-flat-7 : goal.bounds-flat-7
-bounds-flat-7 c = search rules
-
 -- a clock of its parts
 abbrev clock_with : List ℕ → Bool → Clock
 clock_with time known = record { octets = time; known = known }

@@ -15,17 +15,17 @@ use Rattle.answers.specs.Said.{Lent, lent}
 use Rattle.answers.specs.Process.{update_octets, proposal_ok, process_cause_taken}
 use Rattle.answers.proofs.Proposals.{most_reply, whole_reply}
 use Rattle.updates.specs.Updates.{told_by_all, left_by_all}
-use Rattle.commands.proofs.Laws.{gives, process-silent, process-bad, process-untold, process-unanswered, process-done}
+use Rattle.commands.proofs.Laws.{gives, process_silent, process_bad, process_untold, process_unanswered, process_done}
 use Rattle.commands.proofs.handle_process_command.Goals as goal
-use Rattle.commands.proofs.handle_process_command.Goals.{After-is_proposal, After-told_octets-told, Else-not-is_command_cot}
+use Rattle.commands.proofs.handle_process_command.Goals.{After-is_proposal, After-told_octets-told, Else-not-is_command_cot, Start}
 
 -- what is lent
-abbrev lentIn : tie.Start → Lent
+abbrev lentIn : Start → Lent
 lentIn s = lent s.args.table.now [] s.args.answer.now s.args.spontaneous.now
 
 -- the cause is one that is taken
 taken : (c : Else-not-is_command_cot) → process_cause_taken c.args.command.cause ≡ true
-taken c = sym c.is_command_cot.ensures ∙ not-false _ c.if-not-is_command_cot.false
+taken c = sym c.is_command_cot.ensures ∙ c.if-not-is_command_cot.false
 
 -- whether the proposal is one
 proposal : (c : After-is_proposal) →
@@ -40,77 +40,47 @@ told : (c : After-told_octets-told) →
 told c =
     c.told_octets-told.ensures ∙ ap (λ (n : ℕ). length (told_by_all c.args.table.now c.args.updates.now 0 n)) c.updates_read-n.ensures.0
 
-pub is_command_cot-requires : goal.is_command_cot-requires
-is_command_cot-requires c = search rules
-
-pub nothing-requires : goal.nothing-requires
-nothing-requires c = search rules
-
 pub returns-then-not-is_command_cot : goal.returns-then-not-is_command_cot
 returns-then-not-is_command_cot c =
     let a = c.args in
-    let untaken : process_cause_taken a.command.cause ≡ false = sym c.is_command_cot.ensures ∙ not-true _ c.if-not-is_command_cot.true in
-    gives _ _ _ _ _ c.nothing.ensures (process-silent (lentIn (goal.at.returns-then-not-is_command_cot c).Start) a.negative a.reply-type a.reply.now a.updates.now a.command c.requires untaken)
+    let untaken : process_cause_taken a.command.cause ≡ false = sym c.is_command_cot.ensures ∙ c.if-not-is_command_cot.true in
+    gives _ _ _ _ _ c.nothing.ensures (process_silent (lentIn (goal.at.returns-then-not-is_command_cot c).Start) a.negative a.reply-type a.reply.now a.updates.now a.command c.requires untaken)
 
 pub limit_of-requires : goal.limit_of-requires
 limit_of-requires c =
     c.requires
 
-pub is_proposal-requires : goal.is_proposal-requires
-is_proposal-requires c = search rules
-
-pub nothing-requires-then-not-is_proposal : goal.nothing-requires-then-not-is_proposal
-nothing-requires-then-not-is_proposal c = search rules
-
-pub shape_of-table-then-not-is_proposal : goal.shape_of-table-then-not-is_proposal
-shape_of-table-then-not-is_proposal c = search rules
-
 pub returns-then-not-is_proposal : goal.returns-then-not-is_proposal
 returns-then-not-is_proposal c =
     let a = c.args in
-    let bad = proposal (goal.at.returns-then-not-is_proposal c).After-is_proposal ∙ not-true _ c.if-not-is_proposal.true in
-    gives _ _ _ _ _ c.nothing-then-not-is_proposal.ensures (process-bad (lentIn start) a.negative a.reply-type a.reply.now a.updates.now a.command c.requires (taken (goal.at.returns-then-not-is_proposal c).Else-not-is_command_cot) bad)
-
-pub updates_read-n-requires : goal.updates_read-n-requires
-updates_read-n-requires c = search rules
+    let bad = proposal (goal.at.returns-then-not-is_proposal c).After-is_proposal ∙ c.if-not-is_proposal.true in
+    gives _ _ _ _ _ c.nothing-then-not-is_proposal.ensures (process_bad (lentIn (goal.at.returns-then-not-is_proposal c).Start) a.negative a.reply-type a.reply.now a.updates.now a.command c.requires (taken (goal.at.returns-then-not-is_proposal c).Else-not-is_command_cot) bad)
 
 pub told_octets-told-requires : goal.told_octets-told-requires
 told_octets-told-requires c =
     (c.requires, c.updates_read-n.ensures.1)
 
-pub nothing-requires-then-spontaneous-told : goal.nothing-requires-then-spontaneous-told
-nothing-requires-then-spontaneous-told c = search rules
-
-pub shape_of-table-then-spontaneous-told : goal.shape_of-table-then-spontaneous-told
-shape_of-table-then-spontaneous-told c = search rules
-
 pub returns-then-spontaneous-told : goal.returns-then-spontaneous-told
 returns-then-spontaneous-told c =
     let a = c.args in
-    let ok = proposal (goal.at.returns-then-spontaneous-told c).After-is_proposal ∙ not-false _ c.if-not-is_proposal.false in
+    let ok = proposal (goal.at.returns-then-spontaneous-told c).After-is_proposal ∙ c.if-not-is_proposal.false in
     let t = told (goal.at.returns-then-spontaneous-told c).After-told_octets-told in
     gives _ _ _ _ _ c.nothing-then-spontaneous-told.ensures
-    (process-untold (lentIn start) a.negative a.reply-type a.reply.now a.updates.now a.command c.requires (taken (goal.at.returns-then-spontaneous-told c).Else-not-is_command_cot) ok (omega arith))
+    (process_untold (lentIn (goal.at.returns-then-spontaneous-told c).Start) a.negative a.reply-type a.reply.now a.updates.now a.command c.requires (taken (goal.at.returns-then-spontaneous-told c).Else-not-is_command_cot) ok (omega arith))
 
 pub overflow_add-reply : goal.overflow_add-reply
 overflow_add-reply c =
     let a = c.args in
-    let most = most_reply c.limit_of.result a.reply-type a.reply.now (sym c.is_proposal.ensures ∙ not-false _ c.if-not-is_proposal.false) in
+    let most = most_reply c.limit_of.result a.reply-type a.reply.now (sym c.is_proposal.ensures ∙ c.if-not-is_proposal.false) in
     omega arith
-
-pub nothing-requires-then-answer-reply : goal.nothing-requires-then-answer-reply
-nothing-requires-then-answer-reply c = search rules
-
-pub shape_of-table-then-answer-reply : goal.shape_of-table-then-answer-reply
-shape_of-table-then-answer-reply c = search rules
 
 pub returns-then-answer-reply : goal.returns-then-answer-reply
 returns-then-answer-reply c =
     let a = c.args in
-    let ok = proposal (goal.at.returns-then-answer-reply c).After-is_proposal ∙ not-false _ c.if-not-is_proposal.false in
+    let ok = proposal (goal.at.returns-then-answer-reply c).After-is_proposal ∙ c.if-not-is_proposal.false in
     let t = told (goal.at.returns-then-answer-reply c).After-told_octets-told in
     gives _ _ _ _ _ c.nothing-then-answer-reply.ensures
-    (process-unanswered (lentIn start) a.negative a.reply-type a.reply.now a.updates.now a.command c.requires (taken (goal.at.returns-then-answer-reply c).Else-not-is_command_cot) ok (omega arith) (omega arith))
+    (process_unanswered (lentIn (goal.at.returns-then-answer-reply c).Start) a.negative a.reply-type a.reply.now a.updates.now a.command c.requires (taken (goal.at.returns-then-answer-reply c).Else-not-is_command_cot) ok (omega arith) (omega arith))
 
 pub apply_model_updates-requires : goal.apply_model_updates-requires
 apply_model_updates-requires c =
@@ -120,33 +90,24 @@ apply_model_updates-requires c =
 pub send_command_confirmation-octets-requires : goal.send_command_confirmation-octets-requires
 send_command_confirmation-octets-requires c =
     let a = c.args in
-    let ok = sym c.is_proposal.ensures ∙ not-false _ c.if-not-is_proposal.false in
+    let ok = sym c.is_proposal.ensures ∙ c.if-not-is_proposal.false in
     let most = most_reply c.limit_of.result a.reply-type a.reply.now ok in
     let high = c.limit_of.ensures.2 in
     let room = c.if-answer-reply.false in
     (whole_reply c.limit_of.result a.reply-type a.reply.now ok, omega arith, omega arith)
 
-pub shape_of-table : goal.shape_of-table
-shape_of-table c = search rules
-
-pub shape_of-answer : goal.shape_of-answer
-shape_of-answer c = search rules
-
-pub shape_of-spontaneous : goal.shape_of-spontaneous
-shape_of-spontaneous c = search rules
-
 pub returns : goal.returns
 returns c =
     let a = c.args in
-    let l = lentIn start in
+    let l = lentIn (goal.at.returns c).Start in
     let us = a.updates.now in
-    let ok = proposal (goal.at.returns c).After-is_proposal ∙ not-false _ c.if-not-is_proposal.false in
+    let ok = proposal (goal.at.returns c).After-is_proposal ∙ c.if-not-is_proposal.false in
     let n = c.updates_read-n.ensures.0 in
     let t = told (goal.at.returns c).After-told_octets-told in
     let p = c.apply_model_updates.ensures in
     let q = c.send_command_confirmation-octets.ensures in
     let short = c.if-spontaneous-told.false in
     let room = c.if-answer-reply.false in
-    process-done l a.negative a.reply-type a.reply.now us a.command c.requires (taken (goal.at.returns c).Else-not-is_command_cot) ok _ _ _ _ _ q (omega arith) t (omega arith)
+    process_done l a.negative a.reply-type a.reply.now us a.command c.requires (taken (goal.at.returns c).Else-not-is_command_cot) ok _ _ _ _ _ q (omega arith) t (omega arith)
     (p.memory ∙ (λ j. left_by_all l.table us 0 (n j)))
     (p.output.1 ∙ (λ j. over l.spontaneous 0 (told_by_all l.table us 0 (n j))))

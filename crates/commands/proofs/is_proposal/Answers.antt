@@ -13,40 +13,25 @@ use Rattle.asdu.specs.Command.{is_process}
 use Rattle.answers.specs.Process.{proposal_ok}
 use Rattle.commands.proofs.is_proposal.Goals as goal
 
-pub is_supported_command_type-requires : goal.is_supported_command_type-requires
-is_supported_command_type-requires c = search rules
-
 pub returns-then-not-is_supported_command_type : goal.returns-then-not-is_supported_command_type
 unfolding proposal_ok ◌&◌
 returns-then-not-is_supported_command_type c =
-    let d : is_process (class_of c.args.kind) ≡ false = sym c.is_supported_command_type.ensures ∙ not-true _ c.if-not-is_supported_command_type.true in
+    let d : is_process (class_of c.args.kind) ≡ false = sym c.is_supported_command_type.ensures ∙ c.if-not-is_supported_command_type.true in
     simp d
 
 pub returns-then-limit-reply : goal.returns-then-limit-reply
 unfolding proposal_ok ◌&◌
 returns-then-limit-reply c =
     let a = c.args in
-    let d : is_process (class_of a.kind) ≡ true = sym c.is_supported_command_type.ensures ∙ not-false _ c.if-not-is_supported_command_type.false in
+    let d : is_process (class_of a.kind) ≡ true = sym c.is_supported_command_type.ensures ∙ c.if-not-is_supported_command_type.false in
     let l : leb (length a.reply.now) (a.limit - (control_octets + header_octets)) ≡ false = lt-leb (length a.reply.now) (a.limit - (control_octets + header_octets)) (omega arith) in
     simp (d, l)
-
-pub overflow_sub-limit : goal.overflow_sub-limit
-overflow_sub-limit c = search rules
-
-pub element_octets-element-requires : goal.element_octets-element-requires
-element_octets-element-requires c = search rules
-
-pub overflow_add-result : goal.overflow_add-result
-overflow_add-result c = search rules
-
-pub nonzero_rem-result : goal.nonzero_rem-result
-nonzero_rem-result c = search rules
 
 pub returns : goal.returns
 unfolding proposal_ok ◌&◌
 returns c =
     let a = c.args in
-    let d : is_process (class_of a.kind) ≡ true = sym c.is_supported_command_type.ensures ∙ not-false _ c.if-not-is_supported_command_type.false in
+    let d : is_process (class_of a.kind) ≡ true = sym c.is_supported_command_type.ensures ∙ c.if-not-is_supported_command_type.false in
     let l : leb (length a.reply.now) (a.limit - (control_octets + header_octets)) ≡ true = le-leb (length a.reply.now) (a.limit - (control_octets + header_octets)) (omega arith) in
     let e = c.element_octets-element.ensures.0 in
     simp (d, l) (λ j. eqb (length a.reply.now % (address_octets + e j)) 0)

@@ -13,12 +13,6 @@ use Rattle.limits.specs.declared.size.Class.TheVariants.{Point, System, Process,
 use Rattle.asdu.specs.Command.{is_process}
 use Rattle.commands.proofs.is_supported_command_type.Goals as goal
 
-pub class_of-class-requires : goal.class_of-class-requires
-class_of-class-requires c = search rules
-
-pub enum_told-1 : goal.enum_told-1
-enum_told-1 c = search rules
-
 pub returns-in-Process : goal.returns-in-Process
 returns-in-Process c = sym (ap is_process (sym c.class_of-class.ensures ∙ c.in-Process.is))
 
@@ -30,4 +24,4 @@ other EndOfInitialization k = refl
 other Unknown k = refl
 
 pub returns-in_default : goal.returns-in_default
-returns-in_default c = other c.class_of-class.result c.in_default-own.keys2 ∙ ap is_process c.class_of-class.ensures
+returns-in_default c = other c.class_of-class.result c.in_default.in_default-own.keys2 ∙ ap is_process c.class_of-class.ensures

@@ -15,77 +15,44 @@ use Rattle.answers.proofs.Ends.{ends_no_table}
 use Rattle.commands.specs.Entry.{proposal_of}
 use Rattle.commands.proofs.Laws.{gives, process_unread, process_read}
 use Rattle.commands.proofs.process_command.Goals as goal
-use Rattle.commands.proofs.process_command.Goals.{After-parse-reading, Else-not-well_formed}
+use Rattle.commands.proofs.process_command.Goals.{After-parse-reading, Else-not-well_formed, Start}
 
 -- what is lent, and what is proposed
-abbrev lentIn : tie.Start → Lent
+abbrev lentIn : Start → Lent
 lentIn s = lent s.args.table.now [] s.args.answer.now s.args.spontaneous.now
 
-abbrev proposalIn : tie.Start → Proposal
+abbrev proposalIn : Start → Proposal
 proposalIn s = proposal_of s.args.negative s.args.reply-type s.args.reply.now s.args.updates.now
 
 -- the table is there
 there : (c : Else-not-well_formed) → well_formed c.args.table.now ≡ true
-there c = sym c.well_formed-2.ensures ∙ not-false _ c.if-not-well_formed.false
+there c = sym c.well_formed-2.ensures ∙ c.if-not-well_formed.false
 
 -- what was read is what the table's limit allows
 is_read : (c : After-parse-reading) → c.parse-reading.result ≡ read_as (limit_of (table_of c.args.table.now)) ProcessCommands c.args.asdu.now
 is_read c =
     c.parse-reading.ensures ∙ ap (λ (n : ℕ). read_as n ProcessCommands c.args.asdu.now) c.limit_of-limit.ensures.0
 
-pub well_formed-requires : goal.well_formed-requires
-well_formed-requires c = search rules
-
-pub nothing-requires : goal.nothing-requires
-nothing-requires c = search rules
-
-pub shape_of-table-then-not-well_formed : goal.shape_of-table-then-not-well_formed
-shape_of-table-then-not-well_formed c = search rules
-
 pub returns-then-not-well_formed : goal.returns-then-not-well_formed
 returns-then-not-well_formed c =
     gives _ _ _ _ _ c.nothing.ensures
-    (ends_no_table (process_said [] (proposalIn start) c.args.asdu.now) (lentIn start) (sym c.well_formed-2.ensures ∙ not-true _ c.if-not-well_formed.true))
+    (ends_no_table (process_said [] (proposalIn (goal.at.returns-then-not-well_formed c).Start) c.args.asdu.now) (lentIn (goal.at.returns-then-not-well_formed c).Start) (sym c.well_formed-2.ensures ∙ c.if-not-well_formed.true))
 
 pub limit_of-limit-requires : goal.limit_of-limit-requires
 limit_of-limit-requires c = there (goal.at.limit_of-limit-requires c).Else-not-well_formed
 
-pub parse-reading-requires : goal.parse-reading-requires
-parse-reading-requires c = search rules
-
-pub enum_known-reading : goal.enum_known-reading
-enum_known-reading c = search rules
-
-pub outcome-requires : goal.outcome-requires
-outcome-requires c = search rules
-
-pub nothing-requires-in_default : goal.nothing-requires-in_default
-nothing-requires-in_default c = search rules
-
-pub shape_of-table-in_default : goal.shape_of-table-in_default
-shape_of-table-in_default c = search rules
-
 pub returns-in_default : goal.returns-in_default
 returns-in_default c =
-    let l = lentIn start in
-    let p = proposalIn start in
+    let l = lentIn (goal.at.returns-in_default c).Start in
+    let p = proposalIn (goal.at.returns-in_default c).Start in
     let w = there (goal.at.returns-in_default c).Else-not-well_formed in
     process_read l l p c.args.asdu.now _ _ w (is_read (goal.at.returns-in_default c).After-parse-reading)
-    (gives _ _ _ _ _ (c.nothing-in_default.ensures ∙ ap nothing c.outcome.ensures) (process_unread l p w _ c.in_default-own.keys2))
+    (gives _ _ _ _ _ (c.nothing-in_default.ensures ∙ ap nothing c.outcome.ensures) (process_unread l p w _ c.in_default.in_default-own.keys2))
 
 pub handle_process_command-requires : goal.handle_process_command-requires
 handle_process_command-requires c =
     there (goal.at.handle_process_command-requires c).Else-not-well_formed
 
-pub shape_of-table : goal.shape_of-table
-shape_of-table c = search rules
-
-pub shape_of-answer : goal.shape_of-answer
-shape_of-answer c = search rules
-
-pub shape_of-spontaneous : goal.shape_of-spontaneous
-shape_of-spontaneous c = search rules
-
 pub returns : goal.returns
 returns c =
-    process_read (lentIn start) _ (proposalIn start) c.args.asdu.now _ _ (there (goal.at.returns c).Else-not-well_formed) (sym c.in-Parsed.is ∙ is_read (goal.at.returns c).After-parse-reading) c.handle_process_command.ensures
+    process_read (lentIn (goal.at.returns c).Start) _ (proposalIn (goal.at.returns c).Start) c.args.asdu.now _ _ (there (goal.at.returns c).Else-not-well_formed) (sym c.in-Parsed.is ∙ is_read (goal.at.returns c).After-parse-reading) c.handle_process_command.ensures

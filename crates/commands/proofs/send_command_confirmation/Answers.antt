@@ -15,27 +15,9 @@ use Rattle.asdu.proofs.Lengths.{reply_run}
 use Rattle.answers.specs.Process.{confirmation_cause}
 use Rattle.commands.proofs.send_command_confirmation.Goals as goal
 
-pub element_octets-element-requires : goal.element_octets-element-requires
-element_octets-element-requires c = search rules
-
-pub overflow_add-count : goal.overflow_add-count
-overflow_add-count c = search rules
-
-pub nonzero_div-count : goal.nonzero_div-count
-nonzero_div-count c = search rules
-
 pub overflow_cast-count : goal.overflow_cast-count
 overflow_cast-count c =
     let d = div-le_self (length c.args.reply.now) (3 + c.element_octets-element.result) in omega arith
-
-pub command_reply_cot-cause-requires : goal.command_reply_cot-cause-requires
-command_reply_cot-cause-requires c = search rules
-
-pub put_reply-requires : goal.put_reply-requires
-put_reply-requires c = search rules
-
-pub shape_of-answer : goal.shape_of-answer
-shape_of-answer c = search rules
 
 pub returns : goal.returns
 returns c =

@@ -2,25 +2,16 @@
 use mathlib.Core.Bool.{true}
 use Rattle.asdu.proofs.Lengths.{length_confirmation}
 use Rattle.answers.specs.System.{denied}
-use Rattle.answers.proofs.Ends.{one-nothing, one-all}
+use Rattle.answers.proofs.Ends.{one_nothing, one_all}
 use borrow.Author.Rules.{rules}
 use native.Mathlib.Omega.{arith}
 use Rattle.confirming.proofs.deny.Goals as goal
-
-pub overflow_add-t-5 : goal.overflow_add-t-5
-overflow_add-t-5 c = search rules
-
-pub overflow_add-command : goal.overflow_add-command
-overflow_add-command c = search rules
-
-pub nothing-requires : goal.nothing-requires
-nothing-requires c = search rules
 
 pub returns-then-answer-command : goal.returns-then-answer-command
 returns-then-answer-command c =
     let a = c.args in
     let l = length_confirmation a.command a.asdu.now 7 true c.requires.1 in
-    rw c.nothing.ensures (one-nothing (denied a.command a.asdu.now) a.answer.now (omega arith))
+    rw c.nothing.ensures (one_nothing (denied a.command a.asdu.now) a.answer.now (omega arith))
 
 pub put_confirmation-requires : goal.put_confirmation-requires
 put_confirmation-requires c =
@@ -28,15 +19,9 @@ put_confirmation-requires c =
     let l = length_confirmation a.command a.asdu.now 7 true c.requires.1 in
     (omega arith, c.requires.1, omega arith)
 
-pub given-requires : goal.given-requires
-given-requires c = search rules
-
-pub shape_of-answer : goal.shape_of-answer
-shape_of-answer c = search rules
-
 pub returns : goal.returns
 returns c =
     let a = c.args in
     let l = length_confirmation a.command a.asdu.now 7 true c.requires.1 in
     let e = c.put_confirmation.ensures in
-    rw c.given.ensures (one-all (denied a.command a.asdu.now) a.answer.now _ _ (omega arith) e.0 e.1)
+    rw c.given.ensures (one_all (denied a.command a.asdu.now) a.answer.now _ _ (omega arith) e.0 e.1)

@@ -8,17 +8,11 @@ use borrow.Author.Rules.{rules}
 use native.Mathlib.Omega.{arith}
 use Rattle.confirming.proofs.put_termination.Goals as goal
 
-pub slice_bounds-put_confirmation-count : goal.slice_bounds-put_confirmation-count
-slice_bounds-put_confirmation-count c = search rules
-
 pub put_confirmation-requires : goal.put_confirmation-requires
 put_confirmation-requires c =
     let a = c.args in
     let l = length_confirmation a.command a.asdu.now 10 false c.requires.0.1 in
     (omega arith, c.requires.0.1, omega arith)
-
-pub shape_of-answer : goal.shape_of-answer
-shape_of-answer c = search rules
 
 pub returns : goal.returns
 returns c =

@@ -18,25 +18,25 @@ use Rattle.report.specs.Report.{report}
 use Rattle.report.specs.Order.{points_for}
 use Rattle.output.specs.Data.{data_of, wrote, written}
 use Rattle.output.proofs.Reached.{reached}
-use Rattle.confirming.proofs.Laws.{data_is, no_room, has_room, all-written}
+use Rattle.confirming.proofs.Laws.{data_is, no_room, has_room, all_written}
 use borrow.Author.Rules.{rules}
 use native.Mathlib.Omega.{arith}
 use Rattle.confirming.proofs.report.Goals as goal
-use Rattle.confirming.proofs.report.Goals.{After-put_data, In-Octets-2}
+use Rattle.confirming.proofs.report.Goals.{After-put_data, In-Octets-2, Start}
 
 -- the data that the command asks for, and the octets before and after them
-abbrev dataIn : tie.Start → List ℕ
+abbrev dataIn : Start → List ℕ
 dataIn s =
     wire (report (limit_of (table_of s.args.table.now)) s.args.types.now s.args.cause s.args.command.ca
     (selected (selects s.args.selection) (points_for s.args.command.ca (table_of s.args.table.now).stations)))
 
-abbrev aroundIn : tie.Start → ℕ
+abbrev aroundIn : Start → ℕ
 aroundIn s = first_element + s.args.command.element
 
 -- the data that are written are those
-same-data : (c : After-put_data) → (c.put_data.result ≡ wrote (length c.args.answer.now) (aroundIn c.before.before.before.before.before.before.before.before.before) (aroundIn c.before.before.before.before.before.before.before.before.before) (dataIn c.before.before.before.before.before.before.before.before.before))
-    × (c.put_data.new.0 ≡ written c.args.answer.now (aroundIn c.before.before.before.before.before.before.before.before.before) (aroundIn c.before.before.before.before.before.before.before.before.before) (dataIn c.before.before.before.before.before.before.before.before.before))
-same-data c =
+same_data : (c : After-put_data) → (c.put_data.result ≡ wrote (length c.args.answer.now) (aroundIn c.before.before.before.before.before.before.before.before.before) (aroundIn c.before.before.before.before.before.before.before.before.before) (dataIn c.before.before.before.before.before.before.before.before.before))
+    × (c.put_data.new.out ≡ written c.args.answer.now (aroundIn c.before.before.before.before.before.before.before.before.before) (aroundIn c.before.before.before.before.before.before.before.before.before) (dataIn c.before.before.before.before.before.before.before.before.before))
+same_data c =
     let a = c.args in
     let t = a.table.now in
     let o : Octets t = λ k. omega (arith, c.shared_slice_known-1.given k) in
@@ -55,21 +55,12 @@ room : (c : In-Octets-2) → aroundIn c.before.before.before.before.before.befor
 room c =
     let a = c.args in
     has_room (table_of a.table.now) a.command a.asdu.now a.types.now a.cause a.selection a.answer.now c.requires.3.1 _
-    (sym (same-data c.before.before.before.before).0 ∙ c.in-Octets.is)
-
-pub limit_of-limit-requires : goal.limit_of-limit-requires
-limit_of-limit-requires c = search rules
+    (sym (same_data c.before.before.before.before).0 ∙ c.in-Octets.is)
 
 pub reach_of-reach-requires : goal.reach_of-reach-requires
 reach_of-reach-requires c =
     let p = (passed c.args.table.now c.requires.0).top in
     (p.s_high, p.room)
-
-pub overflow_add-before : goal.overflow_add-before
-overflow_add-before c = search rules
-
-pub overflow_add-before-2 : goal.overflow_add-before-2
-overflow_add-before-2 c = search rules
 
 pub put_data-requires : goal.put_data-requires
 put_data-requires c =
@@ -85,21 +76,9 @@ put_data-requires c =
     let p = c.requires in
     (omega arith, omega arith, (omega arith, omega arith), p.1, ((l.1, l.2), p.2))
 
-pub enum_known-octets : goal.enum_known-octets
-enum_known-octets c = search rules
-
-pub enum_told-1 : goal.enum_told-1
-enum_told-1 c = search rules
-
-pub nothing-requires : goal.nothing-requires
-nothing-requires c = search rules
-
-pub shape_of-answer-in_default : goal.shape_of-answer-in_default
-shape_of-answer-in_default c = search rules
-
 pub returns-in_default : goal.returns-in_default
 returns-in_default c =
-    let d = same-data (goal.at.returns-in_default c).After-put_data in
+    let d = same_data (goal.at.returns-in_default c).After-put_data in
     let a = c.args in
     rw c.nothing.ensures
     (no_room (table_of a.table.now) a.command a.asdu.now a.types.now a.cause a.selection a.answer.now c.requires.3.1 (sym d.0 ∙ c.in_default.is) _ d.1)
@@ -114,7 +93,6 @@ put_confirmation-requires c =
 pub overflow_add-before-3 : goal.overflow_add-before-3
 overflow_add-before-3 c =
     let fits = room (goal.at.overflow_add-before-3 c).In-Octets-2 in
-    let fit = start.well_formed_lem in
     omega arith
 
 pub put_termination-requires : goal.put_termination-requires
@@ -127,24 +105,16 @@ put_termination-requires c =
 pub overflow_add-octets : goal.overflow_add-octets
 overflow_add-octets c =
     let fits = room (goal.at.overflow_add-octets c).In-Octets-2 in
-    let fit = start.well_formed_lem in
     omega arith
 
 pub overflow_add-before-4 : goal.overflow_add-before-4
 overflow_add-before-4 c =
     let fits = room (goal.at.overflow_add-before-4 c).In-Octets-2 in
-    let fit = start.well_formed_lem in
     omega arith
-
-pub given-requires : goal.given-requires
-given-requires c = search rules
-
-pub shape_of-answer : goal.shape_of-answer
-shape_of-answer c = search rules
 
 pub returns : goal.returns
 returns c =
-    let d = same-data (goal.at.returns c).After-put_data in
+    let d = same_data (goal.at.returns c).After-put_data in
     let a = c.args in
     rw c.given.ensures
-    (all-written (table_of a.table.now) a.command a.asdu.now a.types.now a.cause a.selection a.answer.now c.requires.3.1 _ (sym d.0 ∙ c.in-Octets.is) _ _ _ d.1 c.put_confirmation.ensures.1 c.put_termination.ensures)
+    (all_written (table_of a.table.now) a.command a.asdu.now a.types.now a.cause a.selection a.answer.now c.requires.3.1 _ (sym d.0 ∙ c.in-Octets.is) _ _ _ d.1 c.put_confirmation.ensures.1 c.put_termination.ensures)

@@ -7,19 +7,10 @@ use Rattle.report.specs.Single.{end_of_initialization_asdu}
 use Rattle.report.proofs.Single.{length_end}
 use Rattle.connection_start.proofs.end_of_initialization_asdu.Goals as goal
 
-pub overflow_cast-h : goal.overflow_cast-h
-overflow_cast-h c = search rules
-
-pub slice_bounds-put_asdu-end : goal.slice_bounds-put_asdu-end
-slice_bounds-put_asdu-end c = search rules
-
 pub put_asdu-requires : goal.put_asdu-requires
 put_asdu-requires c =
     let n = length_end c.args.ca in
     (omega arith, omega arith)
-
-pub shape_of-out : goal.shape_of-out
-shape_of-out c = search rules
 
 pub returns : goal.returns
 unfolding end_of_initialization_asdu asdu_octets object_octets joined

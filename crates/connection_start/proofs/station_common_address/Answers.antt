@@ -11,25 +11,10 @@ use Rattle.connection_start.proofs.station_common_address.Goals as goal
 pub loop-left-init : goal.loop-left-init
 loop-left-init c = (refl, omega arith)
 
-pub held_at-requires : goal.held_at-requires
-held_at-requires c = search rules
-
-pub two_at-requires : goal.two_at-requires
-two_at-requires c = search rules
-
 pub returns-then-held_at-ne0 : goal.returns-then-held_at-ne0
 returns-then-held_at-ne0 c =
     let l = c.loop-left in
     (c.two_at.ensures.0 ∙ sym (l.invariant.0 ∙ address_here _ _ _ (omega arith) (omega arith)), omega arith)
-
-pub overflow_add-station : goal.overflow_add-station
-overflow_add-station c = search rules
-
-pub overflow_sub-left : goal.overflow_sub-left
-overflow_sub-left c = search rules
-
-pub loop-left-smaller : goal.loop-left-smaller
-loop-left-smaller c = search rules
 
 pub loop-left-preserved : goal.loop-left-preserved
 loop-left-preserved c =

@@ -52,7 +52,7 @@ use Rattle.point_lists.specs.contracts.register_points as callee
 use Rattle.point_lists.proofs.register_points.Symbol as callee-def
 use Rattle.point_lists.proofs.register_points.Symbol.{name as #callee}
 use Rattle.point_lists.proofs.register_points.Met as callee-thm
-use Rattle.forms.proofs.Kept.{at, array_ty, Kept, lends-array, array_back}
+use Rattle.forms.proofs.Kept.{at, array_ty, Kept, lends_array, array_back}
 use Rattle.forms.proofs.Locals.{alloc_all}
 use Rattle.forms.specs.contracts.register_one.Key.{name as #this}
 use Rattle.forms.specs.contracts.register_one as this
@@ -143,7 +143,7 @@ module _ {M : Type 1} {𝓤 : Ura M} (𝓛 : Logic 𝓤) (at_mem : Memory → SP
       assigns ! (of_opd ! (load ! (from ! (stop !)) (look ! 10 refl))) (from ! (stop !)) (init ! 8 refl (Array-Typed R (LL.lawful R₀.the_type R₁.the_laws 𝓛).typed n ps _ is).0) $
       -- the local array is lent for a lifetime ν of the call
       lft_new ! tt (λ ν. move ! (9 ∷ 17 ∷ []) $
-      use2 𝓛 (later (some (λ (γ : GName). ‵ ((ShrSlice (named 1) (ν ∷ []) R).own_val (at R l.1.1.1.0 γ ps) (slice_val (l.1.1.1.0, 0) n ∷ [])) ⊛ ‵ (flent (ν ∷ []) (Kept R n ps l.1.1.1.0))))) (lends-array 𝓛 R tt n ps l.1.1.1.0 (ν ∷ []) (av ps) (named 1) room-n) $ await ! tt $ pick ! (λ γ. split ! $
+      use2 𝓛 (later (some (λ (γ : GName). ‵ ((ShrSlice (named 1) (ν ∷ []) R).own_val (at R l.1.1.1.0 γ ps) (slice_val (l.1.1.1.0, 0) n ∷ [])) ⊛ ‵ (flent (ν ∷ []) (Kept R n ps l.1.1.1.0))))) (lends_array 𝓛 R tt n ps l.1.1.1.0 (ν ∷ []) (av ps) (named 1) room-n) $ await ! tt $ pick ! (λ γ. split ! $
       -- [what the slice owns; the lender's part; its token; the locals; what table owns; its token]
       assigns ! (addr ! (from ! (fld ! refl (hop ! (look_in ! 14 (sub ! 0 refl (whole !))) (stop !))))) (from ! (stop !)) (init ! 9 refl (tt, tt)) $
       assigns ! (agg ! (and_then ! (load ! (from ! (stop !)) (look ! 9 refl)) (and_then ! (load ! (from ! (fld ! refl (stop !))) (look_in ! 14 (sub ! 1 refl (whole !)))) (no_more !)))) (from ! (stop !)) (init ! 7 refl (tt, (tt, (record { fits = room₀.0 }, tt)))) $

@@ -13,37 +13,10 @@ use Rattle.insert.proofs.insert.Goals as goal
 pub station_at-station-requires : goal.station_at-station-requires
 station_at-station-requires c = let octet = c.slice_known-1.given in (omega arith, omega (arith, octet 6, octet 7))
 
-pub points_of-n-requires : goal.points_of-n-requires
-points_of-n-requires c = search rules
-
-pub overflow_mul-n : goal.overflow_mul-n
-overflow_mul-n c = search rules
-
-pub overflow_add-n : goal.overflow_add-n
-overflow_add-n c = search rules
-
-pub put_in-requires : goal.put_in-requires
-put_in-requires c = search rules
-
-pub overflow_add-station : goal.overflow_add-station
-overflow_add-station c = search rules
-
-pub overflow_add-h : goal.overflow_add-h
-overflow_add-h c = search rules
-
-pub put_two-requires : goal.put_two-requires
-put_two-requires c = search rules
-
-pub overflow_add-n-2 : goal.overflow_add-n-2
-overflow_add-n-2 c = search rules
-
 pub put_two-requires-2 : goal.put_two-requires-2
 put_two-requires-2 c =
     let octet = c.slice_known-1.given in
     (omega arith, omega (arith, octet 4, octet 5))
-
-pub shape_of-m : goal.shape_of-m
-shape_of-m c = search rules
 
 pub returns : goal.returns
 unfolding placed

@@ -8,18 +8,6 @@ use Rattle.interrogations.specs.Interrogations.{CauseOf}
 use borrow.Author.Rules.{rules}
 use Rattle.interrogations.proofs.answer_to.Goals as goal
 
-pub enum_known-choice : goal.enum_known-choice
-enum_known-choice c = search rules
-
-pub enum_told-1 : goal.enum_told-1
-enum_told-1 c = search rules
-
-pub deny-requires : goal.deny-requires
-deny-requires c = search rules
-
-pub shape_of-answer-in_default : goal.shape_of-answer-in_default
-shape_of-answer-in_default c = search rules
-
 pub returns-in_default : goal.returns-in_default
 unfolding answer_to
 returns-in_default c =
@@ -31,9 +19,6 @@ pub report-requires : goal.report-requires
 report-requires c =
     let p = c.requires in
     (p.0, p.1, subst (λ (x : Choice). CauseOf x c.args.cause) c.in-Selected.is p.2, p.3)
-
-pub shape_of-answer : goal.shape_of-answer
-shape_of-answer c = search rules
 
 pub returns : goal.returns
 unfolding answer_to

@@ -5,8 +5,8 @@ use Rattle.table.proofs.Parse.{passed}
 use Rattle.report.specs.declared.Reach.{Reach}
 use Rattle.output.proofs.Reached.{reached}
 use Rattle.resets.specs.Resets.{reset_places}
-use Rattle.interrogations.proofs.Resets.{reach-reset}
-use Rattle.interrogations.proofs.Laws.{no-action, none-chosen, some-chosen}
+use Rattle.interrogations.proofs.Resets.{reach_reset}
+use Rattle.interrogations.proofs.Laws.{no_action, none_chosen, some_chosen}
 use borrow.Author.Rules.{rules}
 use native.Mathlib.Omega.{arith}
 use Rattle.interrogations.proofs.apply_counter_freeze_qualifier.Goals as goal
@@ -15,19 +15,13 @@ pub returns-then-qualifier-lt2 : goal.returns-then-qualifier-lt2
 returns-then-qualifier-lt2 c =
     let a = c.args in
     let o : Octets a.table.now = λ k. omega (arith, c.slice_known-1.given k) in
-    no-action a.table.now o c.requires a.ca a.qualifier a.choice c.if-qualifier-lt2.true
-
-pub enum_known-choice : goal.enum_known-choice
-enum_known-choice c = search rules
-
-pub enum_told-1 : goal.enum_told-1
-enum_told-1 c = search rules
+    no_action a.table.now o c.requires a.ca a.qualifier a.choice c.if-qualifier-lt2.true
 
 pub returns-in_default : goal.returns-in_default
 returns-in_default c =
     let a = c.args in
     let o : Octets a.table.now = λ k. omega (arith, c.slice_known-1.given k) in
-    none-chosen a.table.now o c.requires a.ca a.qualifier a.choice c.in_default.is
+    none_chosen a.table.now o c.requires a.ca a.qualifier a.choice c.in_default.is
 
 pub reach_of-reach-requires : goal.reach_of-reach-requires
 reach_of-reach-requires c =
@@ -44,15 +38,11 @@ reset-requires c =
     let lies = (reached t c.args.ca o c.requires).lies in
     omega arith
 
-pub shape_of-table : goal.shape_of-table
-shape_of-table c = search rules
-
 pub returns : goal.returns
 returns c =
     let a = c.args in
     let t = a.table.now in
     let o : Octets t = λ k. omega (arith, c.slice_known-1.given k) in
     let r = c.reach_of-reach.ensures in
-    let s = at-choice.choice.given in
-    c.reset.ensures ∙ (λ j. reset_places s.0.0 t (r j).base (r j).n) ∙ reach-reset t o c.requires a.ca s.0.0
-    ∙ some-chosen t o c.requires a.ca a.qualifier a.choice s.0.0 s.1 c.if-qualifier-lt2.false
+    c.reset.ensures ∙ (λ j. reset_places c.in-Selected.selection t (r j).base (r j).n) ∙ reach_reset t o c.requires a.ca c.in-Selected.selection
+    ∙ some_chosen t o c.requires a.ca a.qualifier a.choice c.in-Selected.selection c.in-Selected.is c.if-qualifier-lt2.false

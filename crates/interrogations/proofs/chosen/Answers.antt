@@ -3,24 +3,21 @@ use mathlib.Core.Path.{sym, ap, ◌∙◌}
 use Prim.Native.Nat.{ℕ}
 use Rattle.report.specs.declared.Selection.TheVariants.{CounterGroup}
 use Rattle.answers.specs.declared.Choice.TheVariants.{Selected}
-use Rattle.interrogations.proofs.Laws.{chooses-all, chooses-none-below, chooses-none-above, chooses-group}
+use Rattle.interrogations.proofs.Laws.{chooses_all, chooses_none_below, chooses_none_above, chooses_group}
 use borrow.Author.Rules.{rules}
 use native.Mathlib.Omega.{arith}
 use Rattle.interrogations.proofs.chosen.Goals as goal
 
-pub choice_of-choice-requires : goal.choice_of-choice-requires
-choice_of-choice-requires c = search rules
-
 pub returns-then-choice-eq5 : goal.returns-then-choice-eq5
-returns-then-choice-eq5 c = sym (chooses-all _ (sym c.choice_of-choice.ensures ∙ c.if-choice-eq5.true))
+returns-then-choice-eq5 c = sym (chooses_all _ (sym c.choice_of-choice.ensures ∙ c.if-choice-eq5.true))
 
 pub returns-then-choice-lt1 : goal.returns-then-choice-lt1
-returns-then-choice-lt1 c = let e = c.choice_of-choice.ensures in sym (chooses-none-below _ (λ q. c.if-choice-eq5.false (e ∙ q)) (omega arith))
+returns-then-choice-lt1 c = let e = c.choice_of-choice.ensures in sym (chooses_none_below _ (λ q. c.if-choice-eq5.false (e ∙ q)) (omega arith))
 
 pub returns-then-choice-gt4 : goal.returns-then-choice-gt4
-returns-then-choice-gt4 c = let e = c.choice_of-choice.ensures in sym (chooses-none-above _ (λ q. c.if-choice-eq5.false (e ∙ q)) (omega arith) (omega arith))
+returns-then-choice-gt4 c = let e = c.choice_of-choice.ensures in sym (chooses_none_above _ (λ q. c.if-choice-eq5.false (e ∙ q)) (omega arith) (omega arith))
 
 pub returns : goal.returns
 returns c =
     let e = c.choice_of-choice.ensures in
-    ap (λ (g : ℕ). Selected (CounterGroup g)) e ∙ sym (chooses-group _ (λ q. c.if-choice-eq5.false (e ∙ q)) (omega arith) (omega arith))
+    ap (λ (g : ℕ). Selected (CounterGroup g)) e ∙ sym (chooses_group _ (λ q. c.if-choice-eq5.false (e ∙ q)) (omega arith) (omega arith))

@@ -5,14 +5,8 @@ use borrow.Author.Tests.{eq-eqb, ne_eqb}
 use borrow.Author.Rules.{rules}
 use Rattle.interrogations.proofs.counter_interrogation_data_cot.Goals as goal
 
-pub choice_of-choice-requires : goal.choice_of-choice-requires
-choice_of-choice-requires c = search rules
-
 pub returns-then-choice-eq5 : goal.returns-then-choice-eq5
 returns-then-choice-eq5 c = sym (simp (eq-eqb _ _ (sym c.choice_of-choice.ensures ∙ c.if-choice-eq5.true)))
-
-pub overflow_add-result : goal.overflow_add-result
-overflow_add-result c = search rules
 
 pub returns : goal.returns
 returns c =

@@ -12,32 +12,20 @@ use Rattle.answers.specs.Said.{Sends}
 use Rattle.answers.specs.System.{chosen, counter_cause, resets, reset_by, answer_to, counter_answer, after_counters}
 use Rattle.answers.proofs.Ends.{sends_along}
 use Rattle.interrogations.specs.Interrogations.{CauseOf}
-use Rattle.interrogations.proofs.Laws.{counter_slots, chosen-cause}
+use Rattle.interrogations.proofs.Laws.{counter_slots, chosen_cause}
 use borrow.Author.Rules.{rules}
 use Rattle.interrogations.proofs.handle_counter_interrogation.Goals as goal
 use Rattle.interrogations.proofs.handle_counter_interrogation.Goals.{After-answer_to-answered}
 
 -- the answer that was sent
-answer-sent : (c : After-answer_to-answered) → Sends (counter_answer c.args.command c.args.asdu.now (table_of c.args.table.now)) c.args.answer.now c.answer_to-answered.result c.answer_to-answered.new.0
+answer_sent : (c : After-answer_to-answered) → Sends (counter_answer c.args.command c.args.asdu.now (table_of c.args.table.now)) c.args.answer.now c.answer_to-answered.result c.answer_to-answered.new.answer
 unfolding counter_answer counter_types
-answer-sent c =
+answer_sent c =
     let a = c.args in
     let q = c.qualifier_of-qualifier.ensures in
     let cause = c.counter_interrogation_data_cot-cause.ensures ∙ ap counter_cause q in
     let choice = c.chosen-choice.ensures ∙ ap chosen q in
     sends_along _ _ _ _ _ (λ j. answer_to (table_of a.table.now) a.command a.asdu.now counter_types (cause j) (choice j)) c.answer_to-answered.ensures
-
-pub qualifier_of-qualifier-requires : goal.qualifier_of-qualifier-requires
-qualifier_of-qualifier-requires c = search rules
-
-pub chosen-choice-requires : goal.chosen-choice-requires
-chosen-choice-requires c = search rules
-
-pub counter_interrogation_data_cot-cause-requires : goal.counter_interrogation_data_cot-cause-requires
-counter_interrogation_data_cot-cause-requires c = search rules
-
-pub slice_bounds-answer_to-end : goal.slice_bounds-answer_to-end
-slice_bounds-answer_to-end c = search rules
 
 pub answer_to-answered-requires : goal.answer_to-answered-requires
 unfolding counter_types
@@ -45,31 +33,13 @@ answer_to-answered-requires c =
     let q = c.qualifier_of-qualifier.result in
     let cause = c.counter_interrogation_data_cot-cause.ensures in
     let choice = c.chosen-choice.ensures in
-    let caused = subst (λ (x : Choice). CauseOf x (counter_cause q)) (sym choice) (chosen-cause q) in
+    let caused = subst (λ (x : Choice). CauseOf x (counter_cause q)) (sym choice) (chosen_cause q) in
     (c.requires.0, counter_slots, subst (CauseOf c.chosen-choice.result) (sym cause) caused, c.requires.1.0)
-
-pub is_done-requires : goal.is_done-requires
-is_done-requires c = search rules
-
-pub shape_of-table-then-not-is_done : goal.shape_of-table-then-not-is_done
-shape_of-table-then-not-is_done c = search rules
-
-pub shape_of-answer-then-not-is_done : goal.shape_of-answer-then-not-is_done
-shape_of-answer-then-not-is_done c = search rules
 
 pub returns-then-not-is_done : goal.returns-then-not-is_done
 returns-then-not-is_done c =
-    let d : is_done c.answer_to-answered.result.outcome ≡ false = sym c.is_done.ensures ∙ not-true _ c.if-not-is_done.true in
-    (answer-sent (goal.at.returns-then-not-is_done c).After-answer_to-answered, sym (simp d))
-
-pub apply_counter_freeze_qualifier-requires : goal.apply_counter_freeze_qualifier-requires
-apply_counter_freeze_qualifier-requires c = search rules
-
-pub shape_of-table : goal.shape_of-table
-shape_of-table c = search rules
-
-pub shape_of-answer : goal.shape_of-answer
-shape_of-answer c = search rules
+    let d : is_done c.answer_to-answered.result.outcome ≡ false = sym c.is_done.ensures ∙ c.if-not-is_done.true in
+    (answer_sent (goal.at.returns-then-not-is_done c).After-answer_to-answered, sym (simp d))
 
 pub returns : goal.returns
 unfolding after_counters
@@ -78,6 +48,6 @@ returns c =
     let t = a.table.now in
     let q = c.qualifier_of-qualifier.ensures in
     let choice = c.chosen-choice.ensures ∙ ap chosen q in
-    let d : is_done c.answer_to-answered.result.outcome ≡ true = sym c.is_done.ensures ∙ not-false _ c.if-not-is_done.false in
+    let d : is_done c.answer_to-answered.result.outcome ≡ true = sym c.is_done.ensures ∙ c.if-not-is_done.false in
     let e = c.apply_counter_freeze_qualifier.ensures ∙ (λ j. holding t (table_of t) (pick (resets (q j)) (reset_by (table_of t) a.command.ca (choice j)) (table_of t))) in
-    (answer-sent (goal.at.returns c).After-answer_to-answered, e ∙ sym (simp d))
+    (answer_sent (goal.at.returns c).After-answer_to-answered, e ∙ sym (simp d))

@@ -6,31 +6,16 @@ use Rattle.answers.specs.declared.Choice.{Choice}
 use Rattle.answers.specs.System.{interrogated, answer_to, interrogation_answer}
 use Rattle.answers.proofs.Ends.{sends_along}
 use Rattle.interrogations.specs.Interrogations.{CauseOf}
-use Rattle.interrogations.proofs.Laws.{interrogation_slots, interrogated-cause}
+use Rattle.interrogations.proofs.Laws.{interrogation_slots, interrogated_cause}
 use borrow.Author.Rules.{rules}
 use Rattle.interrogations.proofs.handle_interrogation.Goals as goal
-
-pub interrogation_types_of-types-requires : goal.interrogation_types_of-types-requires
-interrogation_types_of-types-requires c = search rules
-
-pub qualifier_of-qualifier-requires : goal.qualifier_of-qualifier-requires
-qualifier_of-qualifier-requires c = search rules
-
-pub slice_bounds-answer_to-end : goal.slice_bounds-answer_to-end
-slice_bounds-answer_to-end c = search rules
-
-pub interrogated-requires : goal.interrogated-requires
-interrogated-requires c = search rules
 
 pub answer_to-requires : goal.answer_to-requires
 answer_to-requires c =
     let t = table_of c.args.table.now in
     let types = c.interrogation_types_of-types.ensures in
     let q = c.qualifier_of-qualifier.result in
-    (c.requires.0, subst TypesOk (sym types) (interrogation_slots t), subst (λ (x : Choice). CauseOf x q) (sym c.interrogated.ensures) (interrogated-cause q), c.requires.1.0)
-
-pub shape_of-answer : goal.shape_of-answer
-shape_of-answer c = search rules
+    (c.requires.0, subst TypesOk (sym types) (interrogation_slots t), subst (λ (x : Choice). CauseOf x q) (sym c.interrogated.ensures) (interrogated_cause q), c.requires.1.0)
 
 pub returns : goal.returns
 unfolding interrogation_answer

@@ -2,24 +2,6 @@
 use borrow.Author.Rules.{rules}
 use Rattle.khuvelter.proofs.flat_share.Goals as goal
 
-pub number-requires : goal.number-requires
-number-requires c = search rules
-
-pub narrow-requires : goal.narrow-requires
-narrow-requires c = search rules
-
-pub narrow-requires-2 : goal.narrow-requires-2
-narrow-requires-2 c = search rules
-
-pub narrow-requires-3 : goal.narrow-requires-3
-narrow-requires-3 c = search rules
-
-pub narrow-requires-4 : goal.narrow-requires-4
-narrow-requires-4 c = search rules
-
-pub narrow-requires-5 : goal.narrow-requires-5
-narrow-requires-5 c = search rules
-
 pub returns : goal.returns
 returns c =
     let n = c.number.ensures in

@@ -5,15 +5,6 @@ use Rattle.khuvelter.specs.Interface.{plain_reply}
 use Rattle.khuvelter.specs.Calls.{table_alone}
 use Rattle.khuvelter.proofs.khuvelter_open.Goals as goal
 
-pub open-requires : goal.open-requires
-open-requires c = search rules
-
-pub plain_reply-requires : goal.plain_reply-requires
-plain_reply-requires c = search rules
-
-pub shape_of-table : goal.shape_of-table
-shape_of-table c = search rules
-
 pub returns : goal.returns
 returns c =
     let e = (goal.at.returns c).After-open.«open».ensures in

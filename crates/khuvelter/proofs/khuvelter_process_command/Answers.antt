@@ -10,24 +10,6 @@ use Rattle.khuvelter.specs.Interface.{answer_reply}
 use borrow.Author.Rules.{rules}
 use Rattle.khuvelter.proofs.khuvelter_process_command.Goals as goal
 
-pub is_set-requires : goal.is_set-requires
-is_set-requires c = search rules
-
-pub process_command-requires : goal.process_command-requires
-process_command-requires c = search rules
-
-pub answer_reply-requires : goal.answer_reply-requires
-answer_reply-requires c = search rules
-
-pub shape_of-table : goal.shape_of-table
-shape_of-table c = search rules
-
-pub shape_of-answer : goal.shape_of-answer
-shape_of-answer c = search rules
-
-pub shape_of-spontaneous : goal.shape_of-spontaneous
-shape_of-spontaneous c = search rules
-
 pub returns : goal.returns
 returns c =
     let a = c.args in

@@ -8,18 +8,6 @@ use Rattle.khuvelter.specs.Interface.{place_reply}
 use Rattle.khuvelter.specs.Calls.{table_alone}
 use Rattle.khuvelter.proofs.khuvelter_register_point.Goals as goal
 
-pub request_at-request-requires : goal.request_at-request-requires
-request_at-request-requires c = search rules
-
-pub register_point-requires : goal.register_point-requires
-register_point-requires c = search rules
-
-pub place_reply-requires : goal.place_reply-requires
-place_reply-requires c = search rules
-
-pub shape_of-table : goal.shape_of-table
-shape_of-table c = search rules
-
 pub returns : goal.returns
 returns c =
     let a = c.args in

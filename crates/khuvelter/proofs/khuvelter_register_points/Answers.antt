@@ -5,15 +5,6 @@ use Rattle.khuvelter.specs.Interface.{place_reply}
 use Rattle.khuvelter.specs.Calls.{table_alone}
 use Rattle.khuvelter.proofs.khuvelter_register_points.Goals as goal
 
-pub register_points-requires : goal.register_points-requires
-register_points-requires c = search rules
-
-pub place_reply-requires : goal.place_reply-requires
-place_reply-requires c = search rules
-
-pub shape_of-table : goal.shape_of-table
-shape_of-table c = search rules
-
 pub returns : goal.returns
 returns c =
     let e = c.register_points.ensures in

@@ -4,18 +4,6 @@ use Rattle.khuvelter.specs.Interface.{answer_reply}
 use borrow.Author.Rules.{rules}
 use Rattle.khuvelter.proofs.khuvelter_system_command.Goals as goal
 
-pub system_command-said-requires : goal.system_command-said-requires
-system_command-said-requires c = search rules
-
-pub answer_reply-requires : goal.answer_reply-requires
-answer_reply-requires c = search rules
-
-pub shape_of-table : goal.shape_of-table
-shape_of-table c = search rules
-
-pub shape_of-answer : goal.shape_of-answer
-shape_of-answer c = search rules
-
 pub returns : goal.returns
 returns c =
     let e = c.system_command-said.ensures in

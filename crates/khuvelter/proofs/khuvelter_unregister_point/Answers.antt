@@ -5,15 +5,6 @@ use Rattle.khuvelter.specs.Interface.{place_reply}
 use Rattle.khuvelter.specs.Calls.{table_alone}
 use Rattle.khuvelter.proofs.khuvelter_unregister_point.Goals as goal
 
-pub unregister_point-requires : goal.unregister_point-requires
-unregister_point-requires c = search rules
-
-pub place_reply-requires : goal.place_reply-requires
-place_reply-requires c = search rules
-
-pub shape_of-table : goal.shape_of-table
-shape_of-table c = search rules
-
 pub returns : goal.returns
 returns c =
     let e = c.unregister_point.ensures in

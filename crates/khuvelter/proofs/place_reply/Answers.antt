@@ -2,12 +2,6 @@
 use borrow.Author.Rules.{rules}
 use Rattle.khuvelter.proofs.place_reply.Goals as goal
 
-pub number-number-requires : goal.number-number-requires
-number-number-requires c = search rules
-
-pub narrow-place-requires : goal.narrow-place-requires
-narrow-place-requires c = search rules
-
 pub returns : goal.returns
 returns c =
     let n = c.number-number.ensures in

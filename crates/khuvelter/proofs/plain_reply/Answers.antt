@@ -2,9 +2,6 @@
 use borrow.Author.Rules.{rules}
 use Rattle.khuvelter.proofs.plain_reply.Goals as goal
 
-pub number-requires : goal.number-requires
-number-requires c = search rules
-
 pub returns : goal.returns
 returns c =
     let n = c.number.ensures in

@@ -1,31 +1,16 @@
 use mathlib.Core.Path.{ap, ◌∙◌}
 use Rattle.lookup.specs.Find.{ioa_at, spot_at, find_at}
-use Rattle.lookup.proofs.Walk.{missing-end, held_at_lem, missing_at}
+use Rattle.lookup.proofs.Walk.{missing_end, held_at_lem, missing_at}
 use borrow.Author.Rules.{rules}
 use native.Mathlib.Omega.{arith}
 use Rattle.lookup.proofs.find.Goals as goal
-
-pub seek-j-requires : goal.seek-j-requires
-seek-j-requires c = search rules
-
-pub overflow_mul-at : goal.overflow_mul-at
-overflow_mul-at c = search rules
-
-pub overflow_add-at : goal.overflow_add-at
-overflow_add-at c = search rules
 
 pub returns-then-j-n : goal.returns-then-j-n
 unfolding find_at
 returns-then-j-n c =
     let a = c.args in
     let s = c.seek-j in
-    missing-end a.m.now a.first a.n a.ioa s.result (omega arith) ∙ ap (spot_at a.m.now a.first a.n a.ioa) s.ensures.0
-
-pub overflow_add-at-2 : goal.overflow_add-at-2
-overflow_add-at-2 c = search rules
-
-pub three_at-requires : goal.three_at-requires
-three_at-requires c = search rules
+    missing_end a.m.now a.first a.n a.ioa s.result (omega arith) ∙ ap (spot_at a.m.now a.first a.n a.ioa) s.ensures.0
 
 pub returns-then-three_at-ioa : goal.returns-then-three_at-ioa
 unfolding find_at ioa_at

@@ -6,24 +6,6 @@ use borrow.Author.Rules.{rules}
 use native.Mathlib.Omega.{arith}
 use Rattle.lookup.proofs.narrow.Goals as goal
 
-pub overflow_add-middle : goal.overflow_add-middle
-overflow_add-middle c = search rules
-
-pub overflow_mul-middle : goal.overflow_mul-middle
-overflow_mul-middle c = search rules
-
-pub overflow_add-first : goal.overflow_add-first
-overflow_add-first c = search rules
-
-pub overflow_add-first-2 : goal.overflow_add-first-2
-overflow_add-first-2 c = search rules
-
-pub three_at-requires : goal.three_at-requires
-three_at-requires c = search rules
-
-pub overflow_add-result : goal.overflow_add-result
-overflow_add-result c = search rules
-
 pub returns-then-three_at-ioa : goal.returns-then-three_at-ioa
 unfolding narrowed ioa_at
 returns-then-three_at-ioa c =

@@ -1,6 +1,6 @@
 use borrow.Author.Rules.{rules}
 use native.Mathlib.Omega.{arith}
-use Rattle.lookup.proofs.Walk.{seat-hit, seat-on, seat_end}
+use Rattle.lookup.proofs.Walk.{seat_hit, seat_on, seat_end}
 use Rattle.lookup.specs.Seats.{seat_in}
 use Rattle.octets.specs.Number.{two}
 use lib.ListN.{length}

@@ -10,9 +10,6 @@ use Rattle.lookup.proofs.seek.Goals as goal
 pub loop-low-init : goal.loop-low-init
 loop-low-init c = (refl, omega arith, omega arith)
 
-pub narrow-b-requires : goal.narrow-b-requires
-narrow-b-requires c = search rules
-
 pub loop-low-smaller : goal.loop-low-smaller
 loop-low-smaller c =
     let a = c.args in

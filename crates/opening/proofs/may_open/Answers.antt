@@ -18,29 +18,31 @@ pub returns-then-plan-ne0 : goal.returns-then-plan-ne0
 unfolding opens ◌&◌
 returns-then-plan-ne0 c = simp (ne_eqb _ _ c.if-plan-ne0.true)
 
-pub plan_ok-requires : goal.plan_ok-requires
-plan_ok-requires c = search rules
-
 pub returns-then-not-plan_ok : goal.returns-then-not-plan_ok
 unfolding opens ◌&◌
 returns-then-not-plan_ok c =
     let w = c.if-plan-ne0.false in
-    let off = sym c.plan_ok.ensures ∙ not-true _ c.if-not-plan_ok.true in
+    let off = sym c.plan_ok.ensures ∙ c.if-not-plan_ok.true in
     simp (eq-eqb _ _ w, off)
+
+-- what is known past the tests
+record Passed (k : ℕ) (plan : List ℕ) : Type 0 where
+  whole : length plan % 3 ≡ 0
+  valid : valid_plan k (planned plan) ≡ true
+  stations : length (planned plan) ≡ length plan / 3
+  k_high : k ≤ 4096
+  s_high : length (planned plan) ≤ 64
 
 passed : (c : Else-not-plan_ok) → let a = c.args in Passed a.k a.plan.now
 passed c =
     let plan = c.args.plan.now in
     let w : length plan % 3 ≡ 0 = c.if-plan-ne0.false in
-    let v = sym c.plan_ok.ensures ∙ not-false _ c.if-not-plan_ok.false in
+    let v = sym c.plan_ok.ensures ∙ c.if-not-plan_ok.false in
     let b = valid_bounds _ _ v in
     record { whole = w; valid = v; stations = length_planned plan (length plan / 3) (omega arith); k_high = b.0; s_high = b.1 }
 
 pub overflow_mul-result : goal.overflow_mul-result
 overflow_mul-result c = let p = passed (goal.at.overflow_mul-result c).Else-not-plan_ok in omega arith
-
-pub overflow_mul-result-2 : goal.overflow_mul-result-2
-overflow_mul-result-2 c = search rules
 
 pub overflow_add-result : goal.overflow_add-result
 overflow_add-result c = let p = passed (goal.at.overflow_add-result c).Else-not-plan_ok in omega arith

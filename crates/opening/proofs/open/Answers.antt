@@ -11,18 +11,15 @@ use borrow.Author.Rules.{rules}
 use native.Mathlib.Omega.{arith}
 use Rattle.opening.proofs.open.Goals as goal
 
-pub may_open-requires : goal.may_open-requires
-may_open-requires c = search rules
-
 pub returns-then-not-may_open : goal.returns-then-not-may_open
 returns-then-not-may_open c =
-    let off = sym c.may_open.ensures ∙ not-true _ c.if-not-may_open.true in
+    let off = sym c.may_open.ensures ∙ c.if-not-may_open.true in
     (simp off, simp off)
 
 pub put_fresh-requires : goal.put_fresh-requires
 put_fresh-requires c =
     let a = c.args in
-    let on = sym c.may_open.ensures ∙ not-false _ c.if-not-may_open.false in
+    let on = sym c.may_open.ensures ∙ c.if-not-may_open.false in
     let o = opens_is _ a.plan.now _ on in
     let w = o.whole in
     let e = length_planned a.plan.now (length a.plan.now / 3) (omega arith) in
@@ -31,12 +28,9 @@ put_fresh-requires c =
     let r = o.room in
     (omega arith, omega arith, omega arith, omega arith)
 
-pub shape_of-table : goal.shape_of-table
-shape_of-table c = search rules
-
 pub returns : goal.returns
 returns c =
     let a = c.args in
-    let on = sym c.may_open.ensures ∙ not-false _ c.if-not-may_open.false in
+    let on = sym c.may_open.ensures ∙ c.if-not-may_open.false in
     let w = over_front a.table.now (image (fresh a.capacity a.plan.now)) in
     (simp on, simp on (c.put_fresh.ensures ∙ w))

@@ -51,9 +51,6 @@ returns-then-n-gt-MOST_STATIONS c =
     let t3 : 64 < length ss = omega arith in
     simp (le-leb _ _ t0, le-leb _ _ t1, le-leb _ _ t2, lt-leb _ _ t3)
 
-pub stations_ok-requires : goal.stations_ok-requires
-stations_ok-requires c = search rules
-
 pub returns-then-not-stations_ok : goal.returns-then-not-stations_ok
 unfolding valid_plan ◌&◌
 returns-then-not-stations_ok c =
@@ -64,11 +61,8 @@ returns-then-not-stations_ok c =
     let t1 : a.k ≤ 4096 = omega arith in
     let t2 : 1 ≤ length ss = omega arith in
     let t3 : length ss ≤ 64 = omega arith in
-    let off : plan_ok a.k 1 ss ≡ false = sym c.stations_ok.ensures ∙ not-true _ c.if-not-stations_ok.true in
+    let off : plan_ok a.k 1 ss ≡ false = sym c.stations_ok.ensures ∙ c.if-not-stations_ok.true in
     simp (le-leb _ _ t0, le-leb _ _ t1, le-leb _ _ t2, le-leb _ _ t3, off)
-
-pub reservations-requires : goal.reservations-requires
-reservations-requires c = search rules
 
 pub returns : goal.returns
 unfolding valid_plan ◌&◌
@@ -80,5 +74,5 @@ returns c =
     let t1 : a.k ≤ 4096 = omega arith in
     let t2 : 1 ≤ length ss = omega arith in
     let t3 : length ss ≤ 64 = omega arith in
-    let on : plan_ok a.k 1 ss ≡ true = sym c.stations_ok.ensures ∙ not-false _ c.if-not-stations_ok.false in
+    let on : plan_ok a.k 1 ss ≡ true = sym c.stations_ok.ensures ∙ c.if-not-stations_ok.false in
     simp (le-leb _ _ t0, le-leb _ _ t1, le-leb _ _ t2, le-leb _ _ t3, on) (ap (λ (x : ℕ). leb x a.k) c.reservations.ensures)

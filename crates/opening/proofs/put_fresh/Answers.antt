@@ -11,30 +11,6 @@ use borrow.Author.Rules.{rules}
 use native.Mathlib.Omega.{arith}
 use Rattle.opening.proofs.put_fresh.Goals as goal
 
-pub overflow_mul-stations : goal.overflow_mul-stations
-overflow_mul-stations c = search rules
-
-pub overflow_add-stations : goal.overflow_add-stations
-overflow_add-stations c = search rules
-
-pub head_start-start-requires : goal.head_start-start-requires
-head_start-start-requires c = search rules
-
-pub slice_bounds-copy_in-end : goal.slice_bounds-copy_in-end
-slice_bounds-copy_in-end c = search rules
-
-pub copy_in-requires : goal.copy_in-requires
-copy_in-requires c = search rules
-
-pub clear-requires : goal.clear-requires
-clear-requires c = search rules
-
-pub put_stations-requires : goal.put_stations-requires
-put_stations-requires c = search rules
-
-pub shape_of-table : goal.shape_of-table
-shape_of-table c = search rules
-
 pub returns : goal.returns
 returns c =
     let a = c.args in

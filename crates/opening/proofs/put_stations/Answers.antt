@@ -5,7 +5,7 @@ use lib.ListN.{length, drop}
 use Rattle.octets.proofs.Log.{Log, log_start, log_end}
 use Rattle.table.specs.Table.{entries}
 use Rattle.registry.specs.Opening.{planned}
-use Rattle.opening.proofs.Plan.{put_on, entries-end}
+use Rattle.opening.proofs.Plan.{put_on, entries_end}
 use borrow.Author.Rules.{rules}
 use native.Mathlib.Omega.{arith}
 use Rattle.opening.proofs.put_stations.Goals as goal
@@ -14,21 +14,6 @@ pub loop-left-init : goal.loop-left-init
 loop-left-init c =
     let a = c.args in
     (log_start a.table.now a.at (entries (planned a.plan.now)) (omega arith), omega arith, omega arith)
-
-pub put_station-requires : goal.put_station-requires
-put_station-requires c = search rules
-
-pub overflow_add-to : goal.overflow_add-to
-overflow_add-to c = search rules
-
-pub overflow_add-from : goal.overflow_add-from
-overflow_add-from c = search rules
-
-pub overflow_sub-left : goal.overflow_sub-left
-overflow_sub-left c = search rules
-
-pub loop-left-smaller : goal.loop-left-smaller
-loop-left-smaller c = search rules
 
 pub loop-left-preserved : goal.loop-left-preserved
 loop-left-preserved c =
@@ -45,6 +30,6 @@ returns c =
     let a = c.args in
     let l = c.loop-left in
     let plan = a.plan.now in
-    let end = entries-end plan l.from (omega arith) in
+    let end = entries_end plan l.from (omega arith) in
     (log_end a.table.now (entries (planned plan)) l.table a.at l.to
     (subst (λ (x : List ℕ). Log a.table.now a.at (entries (planned plan)) l.table l.to x) end l.invariant.0) (omega arith)).1

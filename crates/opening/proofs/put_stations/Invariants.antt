@@ -6,7 +6,7 @@ use lib.ListN.{length, drop}
 use Rattle.octets.proofs.Log.{Log, log_start, log_end}
 use Rattle.table.specs.Table.{entries}
 use Rattle.registry.specs.Opening.{planned}
-use Rattle.opening.proofs.Plan.{put_on, entries-end}
+use Rattle.opening.proofs.Plan.{put_on, entries_end}
 use borrow.Author.Rules.{rules}
 use native.Mathlib.Omega.{arith}
 use Rattle.opening.proofs.put_stations.Given as goal

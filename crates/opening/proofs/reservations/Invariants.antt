@@ -5,7 +5,7 @@ use lib.ListN.{length, drop}
 use Rattle.limits.specs.Test.{total}
 use Rattle.table.specs.Table.{reserved}
 use Rattle.registry.specs.Opening.{planned}
-use Rattle.opening.proofs.Plan.{reserved-on, reserved-end}
+use Rattle.opening.proofs.Plan.{reserved_on, reserved_end}
 use borrow.Author.Rules.{rules}
 use native.Mathlib.Omega.{arith}
 use Rattle.opening.proofs.reservations.Given as goal

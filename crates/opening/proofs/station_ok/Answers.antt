@@ -4,24 +4,6 @@ use Rattle.table.specs.Table.{numbers_ok}
 use borrow.Author.Rules.{rules}
 use Rattle.opening.proofs.station_ok.Goals as goal
 
-pub number_at-ca-requires : goal.number_at-ca-requires
-number_at-ca-requires c = search rules
-
-pub overflow_add-at : goal.overflow_add-at
-overflow_add-at c = search rules
-
-pub number_at-r-requires : goal.number_at-r-requires
-number_at-r-requires c = search rules
-
-pub overflow_add-at-2 : goal.overflow_add-at-2
-overflow_add-at-2 c = search rules
-
-pub number_at-c-requires : goal.number_at-c-requires
-number_at-c-requires c = search rules
-
-pub numbers_ok-requires : goal.numbers_ok-requires
-numbers_ok-requires c = search rules
-
 pub returns : goal.returns
 returns c =
     let a = c.args in

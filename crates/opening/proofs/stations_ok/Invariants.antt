@@ -5,7 +5,7 @@ use lib.ListN.{length, drop, get_or}
 use borrow.Author.Tests.{not-true, not-false}
 use Rattle.table.specs.Table.{plan_ok}
 use Rattle.registry.specs.Opening.{planned}
-use Rattle.opening.proofs.Plan.{plan-on, plan-off, plan_end}
+use Rattle.opening.proofs.Plan.{plan_on, plan_off, plan_end}
 use borrow.Author.Rules.{rules}
 use native.Mathlib.Omega.{arith}
 use Rattle.opening.proofs.stations_ok.Given as goal

@@ -9,17 +9,11 @@ use Rattle.limits.specs.Outcome.{number_of, is_done}
 use Rattle.point_lists.specs.Later.{answer_of}
 use Rattle.point_lists.proofs.answer_of.Goals as goal
 
-pub number-requires : goal.number-requires
-number-requires c = search rules
-
 pub returns-then-number-lt19 : goal.returns-then-number-lt19
 unfolding answer_of
 returns-then-number-lt19 c =
     let h : ltb (number_of c.args.first.outcome) 19 ≡ true = ap (λ (x : ℕ). ltb x 19) (sym c.number.ensures) ∙ lt-ltb _ _ c.if-number-lt19.true in
     simp h
-
-pub is_done-requires : goal.is_done-requires
-is_done-requires c = search rules
 
 pub returns-then-is_done : goal.returns-then-is_done
 unfolding answer_of

@@ -7,24 +7,9 @@ use Rattle.limits.specs.Outcome.{is_done}
 use Rattle.point_lists.specs.Later.{later_fault, judged}
 use Rattle.point_lists.proofs.judge.Goals as goal
 
-pub passed-requires : goal.passed-requires
-passed-requires c = search rules
-
 pub returns-then-count-lt-DECIDING : goal.returns-then-count-lt-DECIDING
 unfolding judged
 returns-then-count-lt-DECIDING c = (simp (lt-ltb _ _ c.if-count-lt-DECIDING.true) c.passed.ensures, refl)
-
-pub later_fault-fault-requires : goal.later_fault-fault-requires
-later_fault-fault-requires c = search rules
-
-pub is_done-requires : goal.is_done-requires
-is_done-requires c = search rules
-
-pub passed-requires-then-is_done : goal.passed-requires-then-is_done
-passed-requires-then-is_done c = search rules
-
-pub shape_of-m-then-is_done : goal.shape_of-m-then-is_done
-shape_of-m-then-is_done c = search rules
 
 pub returns-then-is_done : goal.returns-then-is_done
 unfolding judged
@@ -33,9 +18,6 @@ returns-then-is_done c =
     let f : c.later_fault-fault.result ≡ later_fault a.m.now a.p a.found.found = c.later_fault-fault.ensures in
     let d : is_done (later_fault a.m.now a.p a.found.found) ≡ true = ap is_done (sym f) ∙ sym c.is_done.ensures ∙ c.if-is_done.true in
     (simp (le-ltb _ _ c.if-count-lt-DECIDING.false, d) c.passed-then-is_done.ensures, refl)
-
-pub shape_of-m : goal.shape_of-m
-shape_of-m c = search rules
 
 pub returns : goal.returns
 unfolding judged

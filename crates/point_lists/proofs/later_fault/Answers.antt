@@ -15,35 +15,23 @@ use Rattle.point_lists.specs.Later.{with_twice, later_fault}
 use Rattle.point_lists.proofs.Alone.{alone_law}
 use Rattle.point_lists.proofs.later_fault.Goals as goal
 
-pub well_formed-requires : goal.well_formed-requires
-well_formed-requires c = search rules
-
 pub returns-then-not-well_formed : goal.returns-then-not-well_formed
 unfolding later_fault
 returns-then-not-well_formed c =
-    let w : well_formed c.args.m.now ≡ false = sym c.well_formed-2.ensures ∙ not-true _ c.if-not-well_formed.true in
+    let w : well_formed c.args.m.now ≡ false = sym c.well_formed-2.ensures ∙ c.if-not-well_formed.true in
     simp w
-
-pub record_of-record-requires : goal.record_of-record-requires
-record_of-record-requires c = search rules
-
-pub slice_bounds-own_tests-end : goal.slice_bounds-own_tests-end
-slice_bounds-own_tests-end c = search rules
 
 pub own_tests-own-requires : goal.own_tests-own-requires
 own_tests-own-requires c =
-    let w = sym c.well_formed-2.ensures ∙ not-false _ c.if-not-well_formed.false in
+    let w = sym c.well_formed-2.ensures ∙ c.if-not-well_formed.false in
     (w, λ e. let z : ◌≡◌ {A = ℕ} 0 1 = ap (λ (b : Bool). choose b 0 1) (sym e) in absurd (omega arith))
-
-pub with_twice-requires : goal.with_twice-requires
-with_twice-requires c = search rules
 
 pub returns : goal.returns
 unfolding later_fault
 returns c =
     let a = c.args in
     let m = a.m.now in
-    let w : well_formed m ≡ true = sym c.well_formed-2.ensures ∙ not-false _ c.if-not-well_formed.false in
+    let w : well_formed m ≡ true = sym c.well_formed-2.ensures ∙ c.if-not-well_formed.false in
     let o : c.own_tests-own.result ≡ own_tests (table_of m) [] 0 (requests_in c.record_of-record.result) = c.own_tests-own.ensures in
     let e = ap requests_in c.record_of-record.ensures ∙ alone_law a.p in
     let f = ap (λ (r : Reply). r.outcome) (o ∙ ap (own_tests (table_of m) [] 0) e) in

@@ -4,9 +4,6 @@ use borrow.Author.Tests.{lt-ltb, le-ltb}
 use Rattle.point_lists.specs.Later.{passed}
 use Rattle.point_lists.proofs.passed.Goals as goal
 
-pub overflow_add-result : goal.overflow_add-result
-overflow_add-result c = search rules
-
 pub returns-then-count-lt-MANY : goal.returns-then-count-lt-MANY
 unfolding passed
 returns-then-count-lt-MANY c = simp (lt-ltb _ _ c.if-count-lt-MANY.true)

@@ -189,8 +189,8 @@ module _ {M : Type 1} {𝓤 : Ura M} (𝓛 : Logic 𝓤) (at_mem : Memory → SP
       qed 𝓛 [] ∵ nothing ! $ nothing ! $ owned ! P (Is P) (LL.makes P₀.the_type P₁.the_plain 𝓛) a _ ia $ fjoin ! $ owned ! Q (Is Q) (LL.makes L.the_type L'.the_plain 𝓛) r _ ir $ fjoin ! $
       move ! (1 ∷ 0 ∷ []) $ join ! $ frame ! $ done !
 
-  said-answer : (r : Later) (a z : Reply) → ent 𝓤 (ensured 𝓛 answer.ended (answer.clauses 𝓛 at_mem run) tt (r, (a, tt)) tt z) (fact 𝓤 (z ≡ answer_of r a))
-  said-answer r a z = ex_e 𝓤 _ (λ ws. snd∗ 𝓤 (sem 𝓛 (lasts answer.ended tt (r, (a, tt)) ws)) (fact 𝓤 (z ≡ answer_of r a)))
+  said_answer : (r : Later) (a z : Reply) → ent 𝓤 (ensured 𝓛 answer.ended (answer.clauses 𝓛 at_mem run) tt (r, (a, tt)) tt z) (fact 𝓤 (z ≡ answer_of r a))
+  said_answer r a z = ex_e 𝓤 _ (λ ws. snd∗ 𝓤 (sem 𝓛 (lasts answer.ended tt (r, (a, tt)) ws)) (fact 𝓤 (z ≡ answer_of r a)))
 
   -- what the calls come to
   abbrev Comes : Type 0
@@ -258,7 +258,7 @@ module _ {M : Type 1} {𝓤 : Ura M} (𝓛 : Logic 𝓤) (at_mem : Memory → SP
       use0 𝓛 (raw ((Answer 𝓛 at_mem run).pre (to-answer r a))) (goes-answer r a (subst (Is Q r) (LL.tells L.the_type L'.the_laws r (w₃ ∷ []) ir) ir) (subst (Is P a) (LL.tells P₀.the_type P₁.the_laws a (w₄ ∷ []) ia) ia)) $
       calls_at ! (fm_of 𝓤 H 𝓛.laws 𝓣) (Answer 𝓛 at_mem run) known-answer (to-answer r a) (and_then ! (load ! (from ! (stop !)) (look ! 19 refl)) (and_then ! (load ! (from ! (stop !)) (look ! 17 refl)) (no_more !))) (λ w.
       use1 𝓛 (later (some (λ (z : Reply). (‵ ftrue ⊛ ‵ (P.own z (w ∷ []))) ⊛ raw (ensured 𝓛 answer.ended (answer.clauses 𝓛 at_mem run) tt (r, (a, tt)) tt z)))) (id⊢ 𝓤 _) $ await ! tt $ pick ! (λ z.
-      split ! $ move ! (1 ∷ []) $ use1 𝓛 (raw (fact 𝓤 (z ≡ answer_of r a))) (said-answer r a z) $ heard ! (z ≡ answer_of r a) (λ e₀. split ! $ drop ! $ peeks ! P (Is P) (shows 𝓛 P) z (w ∷ []) (λ iz.
+      split ! $ move ! (1 ∷ []) $ use1 𝓛 (raw (fact 𝓤 (z ≡ answer_of r a))) (said_answer r a z) $ heard ! (z ≡ answer_of r a) (λ e₀. split ! $ drop ! $ peeks ! P (Is P) (shows 𝓛 P) z (w ∷ []) (λ iz.
       land ! (from ! (stop !)) (init ! 27 refl ((LL.lawful P₀.the_type P₁.the_laws 𝓛).typed z _ iz).0) $
       -- [what the reply owns; the token of points; true; that of table; its last list; the locals]: local j stands at 27 - 2 j
       returns ! (look ! 27 refl) $ forget ! 5 refl $ forget ! 7 refl $ forget ! 9 refl $ forget ! 11 refl $ forget ! 13 refl $ forget ! 15 refl $ forget ! 17 refl $ forget ! 19 refl $ forget ! 21 refl $ forget ! 23 refl $ forget ! 25 refl $ forget ! 27 refl $

@@ -11,20 +11,14 @@ use Rattle.point_lists.proofs.with_twice.Goals as goal
 
 pub returns-then-not-found : goal.returns-then-not-found
 unfolding with_twice
-returns-then-not-found c = simp (not-true c.args.found c.if-not-found.true)
-
-pub is_done-requires : goal.is_done-requires
-is_done-requires c = search rules
+returns-then-not-found c = simp (not-true c.args.found c.if-not-found.true-raw)
 
 pub returns-then-is_done : goal.returns-then-is_done
 unfolding with_twice
 returns-then-is_done c =
     let a = c.args in
     let d : is_done a.fault ≡ true = sym c.is_done.ensures ∙ c.if-is_done.true in
-    simp (not-false a.found c.if-not-found.false, d)
-
-pub number-requires : goal.number-requires
-number-requires c = search rules
+    simp (not-false a.found c.if-not-found.false-raw, d)
 
 pub returns-then-number-eq17 : goal.returns-then-number-eq17
 unfolding with_twice
@@ -32,7 +26,7 @@ returns-then-number-eq17 c =
     let a = c.args in
     let d : is_done a.fault ≡ false = sym c.is_done.ensures ∙ c.if-is_done.false in
     let h : eqb (number_of a.fault) 17 ≡ true = ap (λ (x : ℕ). eqb x 17) (sym c.number.ensures) ∙ eq-eqb _ _ c.if-number-eq17.true in
-    simp (not-false a.found c.if-not-found.false, d, h)
+    simp (not-false a.found c.if-not-found.false-raw, d, h)
 
 pub returns : goal.returns
 unfolding with_twice
@@ -40,4 +34,4 @@ returns c =
     let a = c.args in
     let d : is_done a.fault ≡ false = sym c.is_done.ensures ∙ c.if-is_done.false in
     let h : eqb (number_of a.fault) 17 ≡ false = ap (λ (x : ℕ). eqb x 17) (sym c.number.ensures) ∙ ne_eqb _ _ c.if-number-eq17.false in
-    simp (not-false a.found c.if-not-found.false, d, h)
+    simp (not-false a.found c.if-not-found.false-raw, d, h)

@@ -8,24 +8,6 @@ use Rattle.points.specs.Fold.{stepped}
 use borrow.Author.Rules.{rules}
 use Rattle.points.proofs.lay_down.Goals as goal
 
-pub record_of-octets-requires : goal.record_of-octets-requires
-record_of-octets-requires c = search rules
-
-pub slice_bounds-copy_in-end : goal.slice_bounds-copy_in-end
-slice_bounds-copy_in-end c = search rules
-
-pub overflow_mul-count : goal.overflow_mul-count
-overflow_mul-count c = search rules
-
-pub copy_in-requires : goal.copy_in-requires
-copy_in-requires c = search rules
-
-pub overflow_add-result : goal.overflow_add-result
-overflow_add-result c = search rules
-
-pub shape_of-m-then-count-m : goal.shape_of-m-then-count-m
-shape_of-m-then-count-m c = search rules
-
 pub returns-then-count-m : goal.returns-then-count-m
 unfolding stepped
 returns-then-count-m c =

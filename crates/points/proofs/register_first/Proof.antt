@@ -49,7 +49,7 @@ use Rattle.registry.specs.Registry.{registering_all}
 use Rattle.registry.specs.contracts.Reply as P₀
 use Rattle.registry.proofs.Reply.TheLaws as P₁
 use Rattle.points.specs.Points.{deciding_octets, batch_of}
-use Rattle.points.proofs.Buffer.{zeros, zv, octets, at, owns-zeros, typed-zeros, lends-zeros, zeros-back, big_lit}
+use Rattle.points.proofs.Buffer.{zeros, zv, octets, at, owns_zeros, typed_zeros, lends_zeros, zeros_back, big_lit}
 use Rattle.points.proofs.Locals.{alloc_all}
 use Rattle.replies.specs.Replies.{Replies}
 use Rattle.points.specs.Entry.{Answers}
@@ -153,11 +153,11 @@ module _ {M : Type 1} {𝓤 : Ura M} (𝓛 : Logic 𝓤) (at_mem : Memory → SP
       enter ! 𝓣.C 𝓣.Λ code.function _ _ $ alloc_all ! (code.function).locals _ _ (λ l. params1 ! $
       pass1 ! (init ! 12 refl (tt, (tt, (record { fits = room₀.0 }, tt)))) $ pass1 ! (init ! 10 refl (tt, (tt, (record { fits = room₁.0 }, tt)))) $ pass0 ! $
       -- the local array is zero, and is lent for a lifetime ν of the call
-      owned ! u8 (Is u8) (uint_Makes 𝓛 w8) 0 (vint w8 0 ∷ []) (refl, lit< tt) $ use1 𝓛 (‵ ((Array u8 N).own_val (zeros N) (zv N ∷ []))) (owns-zeros 𝓛 N) $
+      owned ! u8 (Is u8) (uint_Makes 𝓛 w8) 0 (vint w8 0 ∷ []) (refl, lit< tt) $ use1 𝓛 (‵ ((Array u8 N).own_val (zeros N) (zv N ∷ []))) (owns_zeros 𝓛 N) $
       peeks ! (Array u8 N) (Is (Array u8 N)) (shows 𝓛 (Array u8 N)) (zeros N) (zv N ∷ []) (λ is.
-      assigns ! (rep ! N (lit ! tt)) (from ! (stop !)) (init ! 9 refl (typed-zeros 𝓛 N is)) $
+      assigns ! (rep ! N (lit ! tt)) (from ! (stop !)) (init ! 9 refl (typed_zeros 𝓛 N is)) $
       lft_new ! tt (λ ν. move ! (10 ∷ 1 ∷ []) $
-      use2 𝓛 (later (some (λ (γ : GName). ‵ ((MutSlice (named 2) (ν ∷ []) u8).own_val (at l.1.1.1.0 γ (zeros N)) (slice_val (l.1.1.1.0, 0) N ∷ [])) ⊛ ‵ (flent (ν ∷ []) (Held u8 N l.1.1.1.0 0 γ))))) (lends-zeros 𝓛 N l.1.1.1.0 (named 2) (ν ∷ []) room-N) $ await ! tt $ pick ! (λ γ. split ! $
+      use2 𝓛 (later (some (λ (γ : GName). ‵ ((MutSlice (named 2) (ν ∷ []) u8).own_val (at l.1.1.1.0 γ (zeros N)) (slice_val (l.1.1.1.0, 0) N ∷ [])) ⊛ ‵ (flent (ν ∷ []) (Held u8 N l.1.1.1.0 0 γ))))) (lends_zeros 𝓛 N l.1.1.1.0 (named 2) (ν ∷ []) room-N) $ await ! tt $ pick ! (λ γ. split ! $
       -- [what the array owns; the lender's part; its token; the locals; the tokens of table and points; what they own]
       assigns ! (addr ! (from ! (fld ! refl (hop ! (look_in ! 14 (sub ! 0 refl (whole !))) (stop !))))) (from ! (stop !)) (init ! 9 refl (tt, tt)) $
       assigns ! (agg ! (and_then ! (load ! (from ! (stop !)) (look ! 9 refl)) (and_then ! (load ! (from ! (fld ! refl (stop !))) (look_in ! 14 (sub ! 1 refl (whole !)))) (no_more !)))) (from ! (stop !)) (init ! 7 refl (tt, (tt, (record { fits = room₀.0 }, tt)))) $
@@ -173,7 +173,7 @@ module _ {M : Type 1} {𝓤 : Ura M} (𝓛 : Logic 𝓤) (at_mem : Memory → SP
       move ! (2 ∷ []) $ split ! $ move ! (1 ∷ []) $ peeks ! P (Is P) (shows 𝓛 P) p (w ∷ []) (λ ip.
       land ! (from ! (stop !)) (init ! 18 refl ((LL.lawful P₀.the_type P₁.the_laws 𝓛).typed p _ ip).0) $ move ! (1 ∷ []) $ split ! $ move ! (1 ∷ []) $ split ! $ move ! (1 ∷ []) $ split ! $
       -- the lifetime is ended, and the array's room is had back: [the token of ν; true; those of points and table; what the reply owns; the last lists of the array and of table; the lender's part; the locals]
-      lft_end ! tt $ move ! (0 ∷ 7 ∷ 5 ∷ []) $ use3 𝓛 (later (‵ (froom (octets N) l.1.1.1.0 0))) (zeros-back 𝓛 N l.1.1.1.0 (ν ∷ []) γ zs.1.1.0) $ await ! tt $
+      lft_end ! tt $ move ! (0 ∷ 7 ∷ 5 ∷ []) $ use3 𝓛 (later (‵ (froom (octets N) l.1.1.1.0 0))) (zeros_back 𝓛 N l.1.1.1.0 (ν ∷ []) γ zs.1.1.0) $ await ! tt $
       -- [room for the array; true; the tokens of points and table; what the reply owns; the last list of table; the locals]
       returns ! (look ! 19 refl) $ forget ! 6 refl $ forget ! 8 refl $ forget ! 10 refl $ forget ! 12 refl $ forget ! 15 refl $ forget ! 17 refl $ forget ! 19 refl $
       move ! (19 ∷ 20 ∷ []) $ free1 ! $ move ! (17 ∷ 18 ∷ []) $ free1 ! $ move ! (15 ∷ 16 ∷ []) $ free1 ! $ move ! (0 ∷ 14 ∷ []) $ free1 ! $ move ! (11 ∷ 12 ∷ []) $ free1 ! $ move ! (9 ∷ 10 ∷ []) $ free1 ! $ move ! (7 ∷ 8 ∷ []) $ free1 ! $ move ! (5 ∷ 6 ∷ []) $ free1 ! $ free0 ! $

@@ -47,7 +47,7 @@ use Rattle.points.specs.declared.Taken.{Taken}
 use Rattle.points.proofs.Again.{LentAgain, lends_again, comes_back}
 use Rattle.points.proofs.Locals.{alloc_all}
 use Rattle.points.specs.Entry.{Registered, Answers}
-use Rattle.points.proofs.Records.{Took, taken-within, answers}
+use Rattle.points.proofs.Records.{Took, taken_within, answers}
 use Rattle.points.specs.contracts.Taken as S
 use Rattle.points.proofs.Taken.TheLaws as S'
 use Rattle.points.specs.contracts.none_taken as none
@@ -209,7 +209,7 @@ module _ {M : Type 1} {𝓤 : Ura M} (𝓛 : Logic 𝓤) (at_mem : Memory → SP
       assigns ! (agg ! (and_then ! (load ! (from ! (stop !)) (look ! 12 refl)) (and_then ! (load ! (from ! (fld ! refl (stop !))) (look_in ! 26 (sub ! 1 refl (whole !)))) (no_more !)))) (from ! (stop !)) (init ! 10 refl (tt, (tt, (record { fits = room₀.0 }, tt)))) $
       assigns ! (addr ! (from ! (fld ! refl (hop ! (look_in ! 22 (sub ! 0 refl (whole !))) (stop !))))) (from ! (stop !)) (init ! 8 refl (tt, tt)) $
       assigns ! (agg ! (and_then ! (load ! (from ! (stop !)) (look ! 8 refl)) (and_then ! (load ! (from ! (fld ! refl (stop !))) (look_in ! 22 (sub ! 1 refl (whole !)))) (no_more !)))) (from ! (stop !)) (init ! 6 refl (tt, (tt, (record { fits = room₂.0 }, tt)))) $
-      move ! (5 ∷ 3 ∷ 4 ∷ 2 ∷ []) $ group ! 4 $ use1 𝓛 (raw ((Reg 𝓛 at_mem run).pre (to-reg r zs.0))) (goes-reg r zs.0 (subst (Is Q r) (LL.tells S.the_type S'.the_laws r (w₄ ∷ []) ir) ir) (taken-within ms ps s r zs.0 e₇ e₄)) $
+      move ! (5 ∷ 3 ∷ 4 ∷ 2 ∷ []) $ group ! 4 $ use1 𝓛 (raw ((Reg 𝓛 at_mem run).pre (to-reg r zs.0))) (goes-reg r zs.0 (subst (Is Q r) (LL.tells S.the_type S'.the_laws r (w₄ ∷ []) ir) ir) (taken_within ms ps s r zs.0 e₇ e₄)) $
       calls_at ! (fm_of 𝓤 H 𝓛.laws 𝓣) (Reg 𝓛 at_mem run) known-reg (to-reg r zs.0) (and_then ! (load ! (from ! (stop !)) (look ! 7 refl)) (and_then ! (load ! (from ! (stop !)) (look ! 3 refl)) (and_then ! (load ! (from ! (stop !)) (look ! 17 refl)) (no_more !)))) (λ w.
       use1 𝓛 (later (some (λ (p : Reply). ((‵ (flft κ₀ q₀) ⊛ (‵ (flft κ₂ q₂) ⊛ ‵ ftrue)) ⊛ ‵ (P.own p (w ∷ []))) ⊛ raw (ensured 𝓛 reg.ended (reg.clauses 𝓛 at_mem run) (κ₀, (κ₂, tt)) (table, (records γ₂ zs.0, (r, tt))) tt p)))) (id⊢ 𝓤 _) $ await ! tt $ pick ! (λ p.
       split ! $ move ! (1 ∷ []) $ use1 𝓛 (some (λ (ys : List ℕ × (List ℕ × (Unit {0} × Unit {0}))). ‵ (lasts reg.ended (κ₀, (κ₂, tt)) (table, (records γ₂ zs.0, (r, tt))) ys) ⊛ raw (fact 𝓤 (Registered ts zs.0 r p ys.0 ys.1.0)))) (id⊢ 𝓤 _) $ pick ! (λ ys.

@@ -8,29 +8,11 @@ use Rattle.read_data.specs.Reads.{asked_of}
 use Rattle.read_data.proofs.Turns.{held_inside}
 use Rattle.read_data.proofs.found_octets.Goals as goal
 
-pub find-spot-requires : goal.find-spot-requires
-find-spot-requires c = search rules
-
-pub enum_known-spot : goal.enum_known-spot
-enum_known-spot c = search rules
-
-pub overflow_add-result : goal.overflow_add-result
-overflow_add-result c = search rules
-
 pub bounds-m-at : goal.bounds-m-at
 bounds-m-at c =
     let a = c.args in
     let h = held_inside a.m.now a.first a.h a.ioa _ (sym c.find-spot.ensures ∙ c.in-Held.is) in
     omega arith
-
-pub point_octets-requires : goal.point_octets-requires
-point_octets-requires c = search rules
-
-pub overflow_add-result-in-Held : goal.overflow_add-result-in-Held
-overflow_add-result-in-Held c = search rules
-
-pub enum_told-1 : goal.enum_told-1
-enum_told-1 c = search rules
 
 pub returns-in-Held : goal.returns-in-Held
 unfolding asked_of

@@ -10,15 +10,6 @@ use Rattle.read_data.proofs.Turns.{held_inside}
 use Rattle.read_data.proofs.Writing.{found_is, nothing_found}
 use Rattle.read_data.proofs.put_found.Goals as goal
 
-pub find-requires : goal.find-requires
-find-requires c = search rules
-
-pub enum_known-at : goal.enum_known-at
-enum_known-at c = search rules
-
-pub enum_told-1 : goal.enum_told-1
-enum_told-1 c = search rules
-
 pub returns-in_default : goal.returns-in_default
 returns-in_default c =
     let a = c.args in
@@ -31,9 +22,6 @@ put_single-requires c =
     let h = held_inside a.m.now a.first a.h a.ioa _ e in
     let l = ap length (found_is a.m.now a.ca _ _ e) in
     (omega arith, omega arith, omega arith)
-
-pub shape_of-out : goal.shape_of-out
-shape_of-out c = search rules
 
 pub returns : goal.returns
 returns c =

@@ -6,16 +6,13 @@ use Rattle.limits.specs.Size.{address_octets}
 use Rattle.asdu.specs.Header.{wire}
 use Rattle.octets.proofs.Log.{Log, log_start}
 use Rattle.read_data.specs.Reads.{requested_at, requested_by}
-use Rattle.read_data.proofs.Writing.{next_fits, next-in, all_in}
+use Rattle.read_data.proofs.Writing.{next_fits, next_in, all_in}
 use Rattle.read_data.proofs.put_requested.Goals as goal
 
 pub loop-left-init : goal.loop-left-init
 loop-left-init c =
     let a = c.args in
     (log_start a.out.now a.from (wire (requested_by a.m.now a.first a.h a.command a.asdu.now)) (omega arith), omega arith)
-
-pub three_at-ioa-requires : goal.three_at-ioa-requires
-three_at-ioa-requires c = search rules
 
 pub put_found-o-requires : goal.put_found-o-requires
 put_found-o-requires c =
@@ -26,21 +23,12 @@ put_found-o-requires c =
     next_fits a.m.now a.first a.h a.command.ca a.asdu.now a.out.now _ l.out a.from l.o l.at l.left l.invariant.0 c.requires.1 (omega arith) in
     (omega arith, rw i f)
 
-pub overflow_add-at : goal.overflow_add-at
-overflow_add-at c = search rules
-
-pub overflow_sub-left : goal.overflow_sub-left
-overflow_sub-left c = search rules
-
-pub loop-left-smaller : goal.loop-left-smaller
-loop-left-smaller c = search rules
-
 pub loop-left-preserved : goal.loop-left-preserved
 loop-left-preserved c =
     let a = c.args in
     let l = c.loop-left in
     let i = c.three_at-ioa.ensures.0 in (
-      next-in a.m.now a.first a.h a.command.ca a.asdu.now a.out.now _ l.out a.from l.o l.at l.left l.invariant.0 c.requires.1 (omega arith)
+      next_in a.m.now a.first a.h a.command.ca a.asdu.now a.out.now _ l.out a.from l.o l.at l.left l.invariant.0 c.requires.1 (omega arith)
           _ _ _ i c.put_found-o.ensures,
       omega arith,
     )

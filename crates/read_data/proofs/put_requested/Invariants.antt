@@ -7,7 +7,7 @@ use Rattle.limits.specs.Size.{address_octets}
 use Rattle.asdu.specs.Header.{wire}
 use Rattle.octets.proofs.Log.{Log, log_start}
 use Rattle.read_data.specs.Reads.{requested_at, requested_by}
-use Rattle.read_data.proofs.Writing.{next_fits, next-in, all_in}
+use Rattle.read_data.proofs.Writing.{next_fits, next_in, all_in}
 use Rattle.read_data.proofs.put_requested.Given as goal
 
 abbrev pub invariant-loop-left : goal.invariant-loop-left

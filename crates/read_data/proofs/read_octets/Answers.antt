@@ -7,23 +7,11 @@ use Rattle.limits.specs.Size.{header_octets, address_octets}
 use Rattle.lookup.specs.Find.{find_at}
 use Rattle.read_data.specs.declared.Asked.TheVariants.{Known}
 use Rattle.read_data.specs.Reads.{asked_of, together, asked_at}
-use Rattle.read_data.proofs.Turns.{asked_small, together_none, asked-on, asked-missing, asked-end}
+use Rattle.read_data.proofs.Turns.{asked_small, together_none, asked_on, asked_missing, asked_end}
 use Rattle.read_data.proofs.read_octets.Goals as goal
 
 pub loop-left-init : goal.loop-left-init
 loop-left-init c = (sym (together_none _), omega arith, omega arith, omega arith)
-
-pub three_at-ioa-requires : goal.three_at-ioa-requires
-three_at-ioa-requires c = search rules
-
-pub found_octets-requires : goal.found_octets-requires
-found_octets-requires c = search rules
-
-pub enum_known-more : goal.enum_known-more
-enum_known-more c = search rules
-
-pub enum_told-1 : goal.enum_told-1
-enum_told-1 c = search rules
 
 pub returns-in_default : goal.returns-in_default
 returns-in_default c =
@@ -31,22 +19,13 @@ returns-in_default c =
     let m = a.m.now in
     let l = c.loop-left in
     let e = sym c.in_default.is ∙ c.found_octets.ensures ∙ ap (λ (x : ℕ). asked_of m (find_at m a.first a.h x)) c.three_at-ioa.ensures.0 in
-    sym (l.invariant.0 ∙ asked-missing m a.first a.h a.asdu.now l.at l.left (omega arith) l.octets e)
+    sym (l.invariant.0 ∙ asked_missing m a.first a.h a.asdu.now l.at l.left (omega arith) l.octets e)
 
 pub overflow_add-octets : goal.overflow_add-octets
 overflow_add-octets c =
     let a = c.args in
     let s = asked_small a.m.now _ _ (sym c.in-Known.is ∙ c.found_octets.ensures) in
     omega arith
-
-pub overflow_add-at : goal.overflow_add-at
-overflow_add-at c = search rules
-
-pub overflow_sub-left : goal.overflow_sub-left
-overflow_sub-left c = search rules
-
-pub loop-left-smaller : goal.loop-left-smaller
-loop-left-smaller c = search rules
 
 pub loop-left-preserved : goal.loop-left-preserved
 loop-left-preserved c =
@@ -56,10 +35,10 @@ loop-left-preserved c =
     let k = sym c.in-Known.is ∙ c.found_octets.ensures in
     let s = asked_small m _ _ k in
     let e = k ∙ ap (λ (x : ℕ). asked_of m (find_at m a.first a.h x)) c.three_at-ioa.ensures.0 in
-    (l.invariant.0 ∙ asked-on m a.first a.h a.asdu.now l.at l.left (omega arith) l.octets _ e, omega arith, omega arith, omega arith)
+    (l.invariant.0 ∙ asked_on m a.first a.h a.asdu.now l.at l.left (omega arith) l.octets _ e, omega arith, omega arith, omega arith)
 
 pub returns : goal.returns
 returns c =
     let a = c.args in
     let l = c.loop-left in
-    sym (l.invariant.0 ∙ asked-end a.m.now a.first a.h a.asdu.now l.at l.left l.octets (omega arith))
+    sym (l.invariant.0 ∙ asked_end a.m.now a.first a.h a.asdu.now l.at l.left l.octets (omega arith))

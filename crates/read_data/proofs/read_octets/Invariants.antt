@@ -8,7 +8,7 @@ use Rattle.limits.specs.Size.{header_octets, address_octets}
 use Rattle.lookup.specs.Find.{find_at}
 use Rattle.read_data.specs.declared.Asked.TheVariants.{Known}
 use Rattle.read_data.specs.Reads.{asked_of, together, asked_at}
-use Rattle.read_data.proofs.Turns.{asked_small, together_none, asked-on, asked-missing, asked-end}
+use Rattle.read_data.proofs.Turns.{asked_small, together_none, asked_on, asked_missing, asked_end}
 use Rattle.read_data.proofs.read_octets.Given as goal
 
 abbrev pub invariant-loop-left : goal.invariant-loop-left

@@ -8,18 +8,6 @@ use borrow.Author.Rules.{rules}
 use native.Mathlib.Omega.{arith}
 use Rattle.remove.proofs.close_up.Goals as goal
 
-pub shift_down-requires : goal.shift_down-requires
-shift_down-requires c = search rules
-
-pub overflow_sub-to : goal.overflow_sub-to
-overflow_sub-to c = search rules
-
-pub clear-requires : goal.clear-requires
-clear-requires c = search rules
-
-pub shape_of-m : goal.shape_of-m
-shape_of-m c = search rules
-
 pub returns : goal.returns
 unfolding closed_up
 returns c =

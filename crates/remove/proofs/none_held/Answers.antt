@@ -13,21 +13,6 @@ use Rattle.remove.proofs.none_held.Goals as goal
 pub loop-left-init : goal.loop-left-init
 loop-left-init c = (refl, search rules, refl)
 
-pub overflow_add-station : goal.overflow_add-station
-overflow_add-station c = search rules
-
-pub put_two-requires : goal.put_two-requires
-put_two-requires c = search rules
-
-pub overflow_add-station-in-loop-left : goal.overflow_add-station-in-loop-left
-overflow_add-station-in-loop-left c = search rules
-
-pub overflow_sub-left : goal.overflow_sub-left
-overflow_sub-left c = search rules
-
-pub loop-left-smaller : goal.loop-left-smaller
-loop-left-smaller c = search rules
-
 pub loop-left-preserved : goal.loop-left-preserved
 loop-left-preserved c =
     let l = c.loop-left in
@@ -37,9 +22,6 @@ loop-left-preserved c =
       omega arith,
       omega arith,
     )
-
-pub shape_of-m : goal.shape_of-m
-shape_of-m c = search rules
 
 pub returns : goal.returns
 returns c =

@@ -10,39 +10,6 @@ use borrow.Author.Rules.{rules}
 use native.Mathlib.Omega.{arith}
 use Rattle.remove.proofs.take_all_out.Goals as goal
 
-pub capacity_of-k-requires : goal.capacity_of-k-requires
-capacity_of-k-requires c = search rules
-
-pub stations_of-stations-requires : goal.stations_of-stations-requires
-stations_of-stations-requires c = search rules
-
-pub points_of-n-requires : goal.points_of-n-requires
-points_of-n-requires c = search rules
-
-pub overflow_mul-n : goal.overflow_mul-n
-overflow_mul-n c = search rules
-
-pub overflow_add-n : goal.overflow_add-n
-overflow_add-n c = search rules
-
-pub clear-requires : goal.clear-requires
-clear-requires c = search rules
-
-pub overflow_mul-k : goal.overflow_mul-k
-overflow_mul-k c = search rules
-
-pub overflow_add-k : goal.overflow_add-k
-overflow_add-k c = search rules
-
-pub none_held-requires : goal.none_held-requires
-none_held-requires c = search rules
-
-pub put_two-requires : goal.put_two-requires
-put_two-requires c = search rules
-
-pub shape_of-m : goal.shape_of-m
-shape_of-m c = search rules
-
 pub returns : goal.returns
 unfolding all_taken_out
 returns c =

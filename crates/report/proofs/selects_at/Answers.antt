@@ -8,33 +8,6 @@ use Rattle.report.specs.declared.Selection.{Selection}
 use Rattle.report.specs.Selection.{selects}
 use Rattle.report.proofs.selects_at.Goals as goal
 
-pub enum_told-1 : goal.enum_told-1
-enum_told-1 c = search rules
-
-pub enum_known-s : goal.enum_known-s
-enum_known-s c = search rules
-
-pub overflow_add-at : goal.overflow_add-at
-overflow_add-at c = search rules
-
-pub two_at-requires : goal.two_at-requires
-two_at-requires c = search rules
-
-pub wide-requires : goal.wide-requires
-wide-requires c = search rules
-
-pub enum_known-s-in-CounterGroup-1 : goal.enum_known-s-in-CounterGroup-1
-enum_known-s-in-CounterGroup-1 c = search rules
-
-pub overflow_add-result : goal.overflow_add-result
-overflow_add-result c = search rules
-
-pub bounds-m-at : goal.bounds-m-at
-bounds-m-at c = search rules
-
-pub returns-in-Every : goal.returns-in-Every
-returns-in-Every c = search rules
-
 pub returns-in-Group : goal.returns-in-Group
 returns-in-Group c =
     let a = c.args in

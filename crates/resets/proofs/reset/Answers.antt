@@ -11,18 +11,6 @@ use Rattle.resets.proofs.reset.Goals as goal
 pub loop-left-init : goal.loop-left-init
 loop-left-init c = (refl, search rules, refl)
 
-pub reset_place-requires : goal.reset_place-requires
-reset_place-requires c = search rules
-
-pub overflow_add-at : goal.overflow_add-at
-overflow_add-at c = search rules
-
-pub overflow_sub-left : goal.overflow_sub-left
-overflow_sub-left c = search rules
-
-pub loop-left-smaller : goal.loop-left-smaller
-loop-left-smaller c = search rules
-
 pub loop-left-preserved : goal.loop-left-preserved
 loop-left-preserved c =
     let s = c.args.selection in
@@ -33,9 +21,6 @@ loop-left-preserved c =
       omega arith,
       omega arith,
     )
-
-pub shape_of-m : goal.shape_of-m
-shape_of-m c = search rules
 
 pub returns : goal.returns
 returns c =

@@ -11,18 +11,18 @@ use Rattle.table.specs.Settings.{limit_of}
 use Rattle.registry.specs.Effect.{holding}
 use Rattle.answers.specs.Said.{Said, Lent, lent}
 use Rattle.answers.specs.System.{command_said}
-use Rattle.answers.proofs.Ends.{ends-sent, ends-says}
-use Rattle.system_command_handler.proofs.Ways.{Sizes, sizes_of, element_is, one_octet, said-interrogation, said-counters, said_read, said-clock, said-echo, same_clock}
+use Rattle.answers.proofs.Ends.{ends_sent, ends_says}
+use Rattle.system_command_handler.proofs.Ways.{Sizes, sizes_of, element_is, one_octet, said_interrogation, said_counters, said_read, said_clock, said_echo, same_clock}
 use borrow.Author.Rules.{rules}
 use native.Mathlib.Omega.{arith}
 use Rattle.system_command_handler.proofs.dispatch_rtu_system_handler.Goals as goal
 use Rattle.system_command_handler.proofs.dispatch_rtu_system_handler.Goals.{Start}
 
 -- what is lent, and what the command says
-abbrev lentIn : tie.Start → Lent
+abbrev lentIn : Start → Lent
 lentIn s = lent s.args.table.now s.args.clock s.args.answer.now []
 
-abbrev saidIn : tie.Start → Table → Said
+abbrev saidIn : Start → Table → Said
 saidIn s = command_said s.args.clock s.args.asdu.now s.args.command
 
 sizesIn : (s : Start) → Sizes s.args.asdu.now s.args.command
@@ -36,21 +36,12 @@ handle_interrogation-answered-requires c =
     let l = y.1 in
     (c.requires.0, ((omega arith, omega arith), omega arith))
 
-pub with_clock-requires : goal.with_clock-requires
-with_clock-requires c = search rules
-
-pub shape_of-table-then-kind-eq-C_IC_NA_1 : goal.shape_of-table-then-kind-eq-C_IC_NA_1
-shape_of-table-then-kind-eq-C_IC_NA_1 c = search rules
-
-pub shape_of-answer-then-kind-eq-C_IC_NA_1 : goal.shape_of-answer-then-kind-eq-C_IC_NA_1
-shape_of-answer-then-kind-eq-C_IC_NA_1 c = search rules
-
 pub returns-then-kind-eq-C_IC_NA_1 : goal.returns-then-kind-eq-C_IC_NA_1
 returns-then-kind-eq-C_IC_NA_1 c =
     let a = c.args in
     let o : Octets a.table.now = λ i. omega (arith, c.slice_known-1.given i) in
-    let S = said-interrogation a.clock a.asdu.now a.command (table_of a.table.now) c.if-kind-eq-C_IC_NA_1.true in
-    rw c.with_clock.ensures (ends-says (saidIn start) (lentIn start) c.requires.0 o _ a.clock S _ _ _ c.handle_interrogation-answered.ensures (same_clock (is_done c.handle_interrogation-answered.result.outcome) a.clock))
+    let S = said_interrogation a.clock a.asdu.now a.command (table_of a.table.now) c.if-kind-eq-C_IC_NA_1.true in
+    rw c.with_clock.ensures (ends_says (saidIn (goal.at.returns-then-kind-eq-C_IC_NA_1 c).Start) (lentIn (goal.at.returns-then-kind-eq-C_IC_NA_1 c).Start) c.requires.0 o _ a.clock S _ _ _ c.handle_interrogation-answered.ensures (same_clock (is_done c.handle_interrogation-answered.result.outcome) a.clock))
 
 pub handle_counter_interrogation-answered-requires : goal.handle_counter_interrogation-answered-requires
 handle_counter_interrogation-answered-requires c =
@@ -60,24 +51,15 @@ handle_counter_interrogation-answered-requires c =
     let l = y.1 in
     (c.requires.0, ((omega arith, omega arith), omega arith))
 
-pub with_clock-requires-then-kind-eq-C_CI_NA_1 : goal.with_clock-requires-then-kind-eq-C_CI_NA_1
-with_clock-requires-then-kind-eq-C_CI_NA_1 c = search rules
-
-pub shape_of-table-then-kind-eq-C_CI_NA_1 : goal.shape_of-table-then-kind-eq-C_CI_NA_1
-shape_of-table-then-kind-eq-C_CI_NA_1 c = search rules
-
-pub shape_of-answer-then-kind-eq-C_CI_NA_1 : goal.shape_of-answer-then-kind-eq-C_CI_NA_1
-shape_of-answer-then-kind-eq-C_CI_NA_1 c = search rules
-
 pub returns-then-kind-eq-C_CI_NA_1 : goal.returns-then-kind-eq-C_CI_NA_1
 returns-then-kind-eq-C_CI_NA_1 c =
     let a = c.args in
-    let S = said-counters a.clock a.asdu.now a.command (table_of a.table.now) c.if-kind-eq-C_IC_NA_1.false c.if-kind-eq-C_CI_NA_1.true in
+    let S = said_counters a.clock a.asdu.now a.command (table_of a.table.now) c.if-kind-eq-C_IC_NA_1.false c.if-kind-eq-C_CI_NA_1.true in
     let e = c.handle_counter_interrogation-answered.ensures in
     let b = is_done c.handle_counter_interrogation-answered.result.outcome in
     let t = a.table.now in
     rw c.with_clock-then-kind-eq-C_CI_NA_1.ensures
-    (ends-sent (saidIn (goal.at.returns-then-kind-eq-C_CI_NA_1 c).Start) (lentIn (goal.at.returns-then-kind-eq-C_CI_NA_1 c).Start) c.requires.0 _ (ap (λ (s : Said). s.outcome) S) (ap (λ (s : Said). s.told) S) (ap (λ (s : Said). s.answer) S) _ _ _ _ e.0
+    (ends_sent (saidIn (goal.at.returns-then-kind-eq-C_CI_NA_1 c).Start) (lentIn (goal.at.returns-then-kind-eq-C_CI_NA_1 c).Start) c.requires.0 _ (ap (λ (s : Said). s.outcome) S) (ap (λ (s : Said). s.told) S) (ap (λ (s : Said). s.answer) S) _ _ _ _ e.0
     (e.1 ∙ ap (λ (u : Table). pick b (holding t (table_of t) u) t) (sym (ap (λ (s : Said). s.after) S)))
     (same_clock b a.clock ∙ ap (λ (k : List ℕ). pick b k a.clock) (sym (ap (λ (s : Said). s.clock) S))))
 
@@ -87,21 +69,12 @@ handle_read-requires c =
     let y = element_is 102 0 one_octet.2 c.args.command c.args.asdu.now z c.if-kind-eq-C_RD_NA_1.true in
     (c.requires.0, c.requires.2, omega (arith, z.few), y.0, y.1)
 
-pub with_clock-requires-then-kind-eq-C_RD_NA_1 : goal.with_clock-requires-then-kind-eq-C_RD_NA_1
-with_clock-requires-then-kind-eq-C_RD_NA_1 c = search rules
-
-pub shape_of-table-then-kind-eq-C_RD_NA_1 : goal.shape_of-table-then-kind-eq-C_RD_NA_1
-shape_of-table-then-kind-eq-C_RD_NA_1 c = search rules
-
-pub shape_of-answer-then-kind-eq-C_RD_NA_1 : goal.shape_of-answer-then-kind-eq-C_RD_NA_1
-shape_of-answer-then-kind-eq-C_RD_NA_1 c = search rules
-
 pub returns-then-kind-eq-C_RD_NA_1 : goal.returns-then-kind-eq-C_RD_NA_1
 returns-then-kind-eq-C_RD_NA_1 c =
     let a = c.args in
     let o : Octets a.table.now = λ i. omega (arith, c.slice_known-1.given i) in
     let S = said_read a.clock a.asdu.now a.command (table_of a.table.now) c.if-kind-eq-C_IC_NA_1.false c.if-kind-eq-C_CI_NA_1.false c.if-kind-eq-C_RD_NA_1.true in
-    rw c.with_clock-then-kind-eq-C_RD_NA_1.ensures (ends-says (saidIn start) (lentIn start) c.requires.0 o _ a.clock S _ _ _ c.handle_read.ensures (same_clock (is_done c.handle_read.result.outcome) a.clock))
+    rw c.with_clock-then-kind-eq-C_RD_NA_1.ensures (ends_says (saidIn (goal.at.returns-then-kind-eq-C_RD_NA_1 c).Start) (lentIn (goal.at.returns-then-kind-eq-C_RD_NA_1 c).Start) c.requires.0 o _ a.clock S _ _ _ c.handle_read.ensures (same_clock (is_done c.handle_read.result.outcome) a.clock))
 
 pub handle_clock_sync-requires : goal.handle_clock_sync-requires
 handle_clock_sync-requires c =
@@ -109,30 +82,21 @@ handle_clock_sync-requires c =
     let y = element_is 103 7 one_octet.3 c.args.command c.args.asdu.now (sizesIn (goal.at.handle_clock_sync-requires c).Start) c.if-kind-eq-C_CS_NA_1.true in
     ((sizesIn (goal.at.handle_clock_sync-requires c).Start).octets, omega (arith, y.1))
 
-pub shape_of-answer-then-kind-eq-C_CS_NA_1 : goal.shape_of-answer-then-kind-eq-C_CS_NA_1
-shape_of-answer-then-kind-eq-C_CS_NA_1 c = search rules
-
 pub returns-then-kind-eq-C_CS_NA_1 : goal.returns-then-kind-eq-C_CS_NA_1
 returns-then-kind-eq-C_CS_NA_1 c =
     let a = c.args in
     let o : Octets a.table.now = λ i. omega (arith, c.slice_known-1.given i) in
-    let S = said-clock a.clock a.asdu.now a.command (table_of a.table.now) c.if-kind-eq-C_IC_NA_1.false c.if-kind-eq-C_CI_NA_1.false c.if-kind-eq-C_RD_NA_1.false c.if-kind-eq-C_CS_NA_1.true in
+    let S = said_clock a.clock a.asdu.now a.command (table_of a.table.now) c.if-kind-eq-C_IC_NA_1.false c.if-kind-eq-C_CI_NA_1.false c.if-kind-eq-C_RD_NA_1.false c.if-kind-eq-C_CS_NA_1.true in
     let e = c.handle_clock_sync.ensures in
-    ends-says (saidIn (goal.at.returns-then-kind-eq-C_CS_NA_1 c).Start) (lentIn (goal.at.returns-then-kind-eq-C_CS_NA_1 c).Start) c.requires.0 o _ _ S _ _ _ e.0 e.1
+    ends_says (saidIn (goal.at.returns-then-kind-eq-C_CS_NA_1 c).Start) (lentIn (goal.at.returns-then-kind-eq-C_CS_NA_1 c).Start) c.requires.0 o _ _ S _ _ _ e.0 e.1
 
 pub echo-requires : goal.echo-requires
 echo-requires c =
     (sizesIn (goal.at.echo-requires c).Start).octets
 
-pub with_clock-requires-2 : goal.with_clock-requires-2
-with_clock-requires-2 c = search rules
-
-pub shape_of-answer : goal.shape_of-answer
-shape_of-answer c = search rules
-
 pub returns : goal.returns
 returns c =
     let a = c.args in
     let o : Octets a.table.now = λ i. omega (arith, c.slice_known-1.given i) in
-    let S = said-echo a.clock a.asdu.now a.command (table_of a.table.now) c.if-kind-eq-C_IC_NA_1.false c.if-kind-eq-C_CI_NA_1.false c.if-kind-eq-C_RD_NA_1.false c.if-kind-eq-C_CS_NA_1.false in
-    rw c.with_clock-2.ensures (ends-says (saidIn (goal.at.returns c).Start) (lentIn (goal.at.returns c).Start) c.requires.0 o _ a.clock S _ _ _ c.echo.ensures (same_clock (is_done c.echo.result.outcome) a.clock))
+    let S = said_echo a.clock a.asdu.now a.command (table_of a.table.now) c.if-kind-eq-C_IC_NA_1.false c.if-kind-eq-C_CI_NA_1.false c.if-kind-eq-C_RD_NA_1.false c.if-kind-eq-C_CS_NA_1.false in
+    rw c.with_clock-2.ensures (ends_says (saidIn (goal.at.returns c).Start) (lentIn (goal.at.returns c).Start) c.requires.0 o _ a.clock S _ _ _ c.echo.ensures (same_clock (is_done c.echo.result.outcome) a.clock))

@@ -9,63 +9,42 @@ use Rattle.table.specs.Settings.{limit_of}
 use Rattle.asdu.proofs.Reading.{no_first, first_is}
 use Rattle.answers.specs.Said.{Said, Lent, lent, nothing}
 use Rattle.answers.specs.System.{system_said, is_silent}
-use Rattle.answers.proofs.Ends.{ends-refused, ends-alike}
-use Rattle.system_command_handler.proofs.Ways.{sizes_of, silent_none, silent_some, silent-says, taken-says}
+use Rattle.answers.proofs.Ends.{ends_refused, ends_alike}
+use Rattle.system_command_handler.proofs.Ways.{sizes_of, silent_none, silent_some, silent_says, taken_says}
 use borrow.Author.Rules.{rules}
 use native.Mathlib.Omega.{arith}
 use Rattle.system_command_handler.proofs.handle_ingress_asdu.Goals as goal
 use Rattle.system_command_handler.proofs.handle_ingress_asdu.Goals.{Start}
 
 -- what is lent, and what the command says
-abbrev lentIn : tie.Start → Lent
+abbrev lentIn : Start → Lent
 lentIn s = lent s.args.table.now s.args.clock s.args.answer.now []
 
-abbrev saidIn : tie.Start → Table → Said
+abbrev saidIn : Start → Table → Said
 saidIn s = system_said s.args.clock s.args.asdu.now
 
 -- a command that is silent
-silent-in : (s : Start) → is_silent s.args.command s.args.asdu.now ≡ true → (saidIn s (table_of s.args.table.now)).outcome ≡ Silent
-silent-in s e = silent-says s.args.clock s.args.asdu.now (table_of s.args.table.now) s.args.command s.requires.1 e
+silent_in : (s : Start) → is_silent s.args.command s.args.asdu.now ≡ true → (saidIn s (table_of s.args.table.now)).outcome ≡ Silent
+silent_in s e = silent_says s.args.clock s.args.asdu.now (table_of s.args.table.now) s.args.command s.requires.1 e
 
 pub first_object-requires : goal.first_object-requires
 first_object-requires c =
     let z = (sizes_of (limit_of (table_of c.args.table.now)) c.args.asdu.now c.args.command c.requires.1).octets in
     omega arith
 
-pub enum_told-1 : goal.enum_told-1
-enum_told-1 c = search rules
-
-pub enum_told-in_default : goal.enum_told-in_default
-enum_told-in_default c = search rules
-
-pub nothing-requires : goal.nothing-requires
-nothing-requires c = search rules
-
-pub with_clock-requires : goal.with_clock-requires
-with_clock-requires c = search rules
-
 pub returns-in_default : goal.returns-in_default
 returns-in_default c =
     let a = c.args in
     let n = no_first a.command a.asdu.now (sym c.first_object.ensures ∙ c.in_default.is) in
     rw (c.with_clock.ensures, c.nothing.ensures)
-    (ends-refused (saidIn (goal.at.returns-in_default c).Start) (lentIn (goal.at.returns-in_default c).Start) c.requires.0 Silent (silent-in (goal.at.returns-in_default c).Start (silent_none a.command a.asdu.now n)) refl)
-
-pub is_skipped-requires : goal.is_skipped-requires
-is_skipped-requires c = search rules
-
-pub nothing-requires-then-is_skipped : goal.nothing-requires-then-is_skipped
-nothing-requires-then-is_skipped c = search rules
-
-pub with_clock-requires-then-is_skipped : goal.with_clock-requires-then-is_skipped
-with_clock-requires-then-is_skipped c = search rules
+    (ends_refused (saidIn (goal.at.returns-in_default c).Start) (lentIn (goal.at.returns-in_default c).Start) c.requires.0 Silent (silent_in (goal.at.returns-in_default c).Start (silent_none a.command a.asdu.now n)) refl)
 
 pub returns-then-is_skipped : goal.returns-then-is_skipped
 returns-then-is_skipped c =
     let a = c.args in
     let n = (first_is a.command a.asdu.now _ _ (sym c.first_object.ensures ∙ c.in-Object.is)).some in
     let s : is_silent a.command a.asdu.now ≡ true = silent_some a.command a.asdu.now n ∙ sym c.is_skipped.ensures ∙ c.if-is_skipped.true in
-    rw (c.with_clock-then-is_skipped.ensures, c.nothing-then-is_skipped.ensures) (ends-refused (saidIn (goal.at.returns-then-is_skipped c).Start) (lentIn (goal.at.returns-then-is_skipped c).Start) c.requires.0 Silent (silent-in (goal.at.returns-then-is_skipped c).Start s) refl)
+    rw (c.with_clock-then-is_skipped.ensures, c.nothing-then-is_skipped.ensures) (ends_refused (saidIn (goal.at.returns-then-is_skipped c).Start) (lentIn (goal.at.returns-then-is_skipped c).Start) c.requires.0 Silent (silent_in (goal.at.returns-then-is_skipped c).Start s) refl)
 
 pub dispatch_rtu_system_handler-requires : goal.dispatch_rtu_system_handler-requires
 dispatch_rtu_system_handler-requires c =
@@ -73,16 +52,10 @@ dispatch_rtu_system_handler-requires c =
     let n = (first_is a.command a.asdu.now _ _ (sym c.first_object.ensures ∙ c.in-Object.is)).some in
     (c.requires.0, c.requires.1, n)
 
-pub shape_of-table : goal.shape_of-table
-shape_of-table c = search rules
-
-pub shape_of-answer : goal.shape_of-answer
-shape_of-answer c = search rules
-
 pub returns : goal.returns
 returns c =
     let a = c.args in
     let n = (first_is a.command a.asdu.now _ _ (sym c.first_object.ensures ∙ c.in-Object.is)).some in
     let s : is_silent a.command a.asdu.now ≡ false = silent_some a.command a.asdu.now n ∙ sym c.is_skipped.ensures ∙ c.if-is_skipped.false in
-    let taken = taken-says a.clock a.asdu.now (table_of a.table.now) a.command c.requires.1 s in
-    ends-alike _ (lentIn (goal.at.returns c).Start) c.requires.0 (saidIn (goal.at.returns c).Start) taken _ _ c.dispatch_rtu_system_handler.ensures
+    let taken = taken_says a.clock a.asdu.now (table_of a.table.now) a.command c.requires.1 s in
+    ends_alike _ (lentIn (goal.at.returns c).Start) c.requires.0 (saidIn (goal.at.returns c).Start) taken _ _ c.dispatch_rtu_system_handler.ensures

@@ -8,7 +8,7 @@ use Rattle.lookup.specs.Seats.{seat_at}
 use Rattle.lookup.specs.declared.Seat.TheVariants.{Here}
 use Rattle.asdu.specs.Command.{object_at}
 use Rattle.answers.specs.Said.{size}
-use Rattle.read_data.proofs.Entry.{Requested, read-bounds, requested-law, missing-address-law, unplanned_read_law}
+use Rattle.read_data.proofs.Entry.{Requested, read_bounds, requested_law, missing_address_law, unplanned_read_law}
 use Rattle.system_command_handler.proofs.Laws.{read_denied, read_short, read_written}
 use borrow.Author.Rules.{rules}
 use native.Mathlib.Omega.{arith}
@@ -20,47 +20,32 @@ whole_in : (s : Start) → length s.args.asdu.now ≡ object_at s.args.command.e
 whole_in s = s.requires.4 ∙ ap (λ (e : ℕ). object_at e s.args.command.count) (sym s.requires.3)
 
 -- the seat that was found, in a table of octets
-octets-in : (c : In-Here-2) → Octets c.args.table.now
-octets-in c = λ k. omega (arith, c.shared_slice_known-1.given k)
+octets_in : (c : In-Here-2) → Octets c.args.table.now
+octets_in c = λ k. omega (arith, c.shared_slice_known-1.given k)
 
-seat-in : (c : In-Here-2) →
-    let g = c.first-1.given.0 in
-    seat_at c.args.table.now c.args.command.ca ≡ Here g.0 g.1.0 g.1.1.0
-seat-in c = sym c.seat_at.ensures ∙ c.in-Here.is
+seat_in : (c : In-Here-2) →
+    seat_at c.args.table.now c.args.command.ca ≡ Here c.in-Here.field-0 c.in-Here.first c.in-Here.h
+seat_in c = sym c.seat_at.ensures ∙ c.in-Here.is
 
-bounds-in : (c : In-Here-2) →
-    let g = c.first-1.given.0 in
-    g.1.0 + 48 * g.1.1.0 ≤ length c.args.table.now
-bounds-in c =
-    read-bounds c.args.table.now _ _ _ (octets-in c) c.requires.0 c.args.command (seat-in c)
+bounds_in : (c : In-Here-2) →
+    c.in-Here.first + 48 * c.in-Here.h ≤ length c.args.table.now
+bounds_in c =
+    read_bounds c.args.table.now _ _ _ (octets_in c) c.requires.0 c.args.command (seat_in c)
 
 -- every address is known
 all_known : (c : In-Known-2) →
-    let g = at_first.first.given.0 in
-    Requested c.args.table.now g.1.0 g.1.1.0 c.args.command c.args.asdu.now c.in-Known.octets
+    Requested c.args.table.now c.in-Here.first c.in-Here.h c.args.command c.args.asdu.now c.in-Known.octets
 all_known c =
-    requested-law c.args.table.now _ _ _ (octets-in c.before.before.before.before) c.requires.0 c.args.command (seat-in c.before.before.before.before) c.args.asdu.now _ (sym c.in-Known.is ∙ c.read_octets.ensures)
-
-pub overflow_cast-command : goal.overflow_cast-command
-overflow_cast-command c = search rules
+    requested_law c.args.table.now _ _ _ (octets_in c.before.before.before.before) c.requires.0 c.args.command (seat_in c.before.before.before.before) c.args.asdu.now _ (sym c.in-Known.is ∙ c.read_octets.ensures)
 
 pub seat_at-requires : goal.seat_at-requires
 seat_at-requires c =
     let p = (passed c.args.table.now c.requires.0).top in
     (p.s_high, p.room)
 
-pub enum_known-first : goal.enum_known-first
-enum_known-first c = search rules
-
-pub enum_told-1 : goal.enum_told-1
-enum_told-1 c = search rules
-
 pub echo-requires : goal.echo-requires
 echo-requires c =
     whole_in (goal.at.echo-requires c).Start
-
-pub shape_of-answer-in_default : goal.shape_of-answer-in_default
-shape_of-answer-in_default c = search rules
 
 pub returns-in_default : goal.returns-in_default
 returns-in_default c =
@@ -70,43 +55,25 @@ returns-in_default c =
 
 pub read_octets-requires : goal.read_octets-requires
 read_octets-requires c =
-    (bounds-in (goal.at.read_octets-requires c).In-Here-2, omega (arith, c.requires.4), c.requires.2)
-
-pub enum_known-octets : goal.enum_known-octets
-enum_known-octets c = search rules
-
-pub enum_told-in_default-read_octets : goal.enum_told-in_default-read_octets
-enum_told-in_default-read_octets c = search rules
+    (bounds_in (goal.at.read_octets-requires c).In-Here-2, omega (arith, c.requires.4), c.requires.2)
 
 pub echo-requires-in_default-read_octets : goal.echo-requires-in_default-read_octets
 echo-requires-in_default-read_octets c =
     whole_in (goal.at.echo-requires-in_default-read_octets c).Start
 
-pub shape_of-answer-in_default-read_octets : goal.shape_of-answer-in_default-read_octets
-shape_of-answer-in_default-read_octets c = search rules
-
 pub returns-in_default-read_octets : goal.returns-in_default-read_octets
 returns-in_default-read_octets c =
     let a = c.args in
     let missing =
-    missing-address-law a.table.now _ _ _ (octets-in (goal.at.returns-in_default-read_octets c).In-Here-2) c.requires.0 a.command (seat-in (goal.at.returns-in_default-read_octets c).In-Here-2) a.asdu.now
+    missing_address_law a.table.now _ _ _ (octets_in (goal.at.returns-in_default-read_octets c).In-Here-2) c.requires.0 a.command (seat_in (goal.at.returns-in_default-read_octets c).In-Here-2) a.asdu.now
     (sym c.in_default-read_octets.is ∙ c.read_octets.ensures) in
     read_denied a.command a.asdu.now a.answer.now _ missing _ _ c.echo-in_default-read_octets.ensures
-
-pub nothing-requires : goal.nothing-requires
-nothing-requires c = search rules
 
 pub returns-then-answer-before : goal.returns-then-answer-before
 returns-then-answer-before c =
     let a = c.args in
     rw c.nothing.ensures
     (read_short a.table.now _ _ a.command a.asdu.now a.answer.now _ (all_known (goal.at.returns-then-answer-before c).In-Known-2) (whole_in (goal.at.returns-then-answer-before c).Start) (omega arith))
-
-pub overflow_sub-answer : goal.overflow_sub-answer
-overflow_sub-answer c = search rules
-
-pub nothing-requires-then-answer-before-2 : goal.nothing-requires-then-answer-before-2
-nothing-requires-then-answer-before-2 c = search rules
 
 pub returns-then-answer-before-2 : goal.returns-then-answer-before-2
 returns-then-answer-before-2 c =
@@ -124,13 +91,7 @@ put_requested-requires c =
     let n = z.is_octets in
     let l = ap size z.is_data in
     let kept = c.put_echo.auto.0 in
-    ((bounds-in (goal.at.put_requested-requires c).In-Here-2, omega (arith, c.requires.4)), omega arith)
-
-pub given-requires : goal.given-requires
-given-requires c = search rules
-
-pub shape_of-answer : goal.shape_of-answer
-shape_of-answer c = search rules
+    ((bounds_in (goal.at.put_requested-requires c).In-Here-2, omega (arith, c.requires.4)), omega arith)
 
 pub returns : goal.returns
 returns c =

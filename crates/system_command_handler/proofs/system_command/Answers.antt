@@ -11,82 +11,43 @@ use Rattle.asdu.specs.Command.{read_as}
 use Rattle.asdu.specs.declared.command.Entry.TheVariants.{SystemCommands}
 use Rattle.answers.specs.Said.{Said, Lent, lent, nothing}
 use Rattle.answers.specs.System.{system_said}
-use Rattle.answers.proofs.Ends.{ends_no_table, ends-refused}
-use Rattle.system_command_handler.proofs.Ways.{unread-says}
+use Rattle.answers.proofs.Ends.{ends_no_table, ends_refused}
+use Rattle.system_command_handler.proofs.Ways.{unread_says}
 use borrow.Author.Rules.{rules}
 use Rattle.system_command_handler.proofs.system_command.Goals as goal
-use Rattle.system_command_handler.proofs.system_command.Goals.{After-parse-reading, Else-not-well_formed}
+use Rattle.system_command_handler.proofs.system_command.Goals.{After-parse-reading, Else-not-well_formed, Start}
 
 -- what is lent, and what the command says
-abbrev lentIn : tie.Start → Lent
+abbrev lentIn : Start → Lent
 lentIn s = lent s.args.table.now s.args.clock s.args.answer.now []
 
-abbrev saidIn : tie.Start → Table → Said
+abbrev saidIn : Start → Table → Said
 saidIn s = system_said s.args.clock s.args.asdu.now
 
 -- the table is there
 there : (c : Else-not-well_formed) → well_formed c.args.table.now ≡ true
-there c = sym c.well_formed-2.ensures ∙ not-false _ c.if-not-well_formed.false
+there c = sym c.well_formed-2.ensures ∙ c.if-not-well_formed.false
 
 -- what was read is what the table's limit allows
 is_read : (c : After-parse-reading) → c.parse-reading.result ≡ read_as (limit_of (table_of c.args.table.now)) SystemCommands c.args.asdu.now
 is_read c =
     c.parse-reading.ensures ∙ ap (λ (n : ℕ). read_as n SystemCommands c.args.asdu.now) c.limit_of-limit.ensures.0
 
-pub well_formed-requires : goal.well_formed-requires
-well_formed-requires c = search rules
-
-pub nothing-requires : goal.nothing-requires
-nothing-requires c = search rules
-
-pub with_clock-requires : goal.with_clock-requires
-with_clock-requires c = search rules
-
-pub shape_of-table-then-not-well_formed : goal.shape_of-table-then-not-well_formed
-shape_of-table-then-not-well_formed c = search rules
-
 pub returns-then-not-well_formed : goal.returns-then-not-well_formed
 returns-then-not-well_formed c =
-    let w : well_formed c.args.table.now ≡ false = sym c.well_formed-2.ensures ∙ not-true _ c.if-not-well_formed.true in
-    rw (c.with_clock.ensures, c.nothing.ensures) (ends_no_table (saidIn start) (lentIn start) w)
+    let w : well_formed c.args.table.now ≡ false = sym c.well_formed-2.ensures ∙ c.if-not-well_formed.true in
+    rw (c.with_clock.ensures, c.nothing.ensures) (ends_no_table (saidIn (goal.at.returns-then-not-well_formed c).Start) (lentIn (goal.at.returns-then-not-well_formed c).Start) w)
 
 pub limit_of-limit-requires : goal.limit_of-limit-requires
 limit_of-limit-requires c = there (goal.at.limit_of-limit-requires c).Else-not-well_formed
-
-pub parse-reading-requires : goal.parse-reading-requires
-parse-reading-requires c = search rules
-
-pub enum_known-reading : goal.enum_known-reading
-enum_known-reading c = search rules
-
-pub outcome-requires : goal.outcome-requires
-outcome-requires c = search rules
-
-pub nothing-requires-in_default : goal.nothing-requires-in_default
-nothing-requires-in_default c = search rules
-
-pub with_clock-requires-in_default : goal.with_clock-requires-in_default
-with_clock-requires-in_default c = search rules
-
-pub shape_of-table-in_default : goal.shape_of-table-in_default
-shape_of-table-in_default c = search rules
 
 pub returns-in_default : goal.returns-in_default
 returns-in_default c =
     let a = c.args in
     let t = table_of a.table.now in
-    let z = unread-says a.clock a.asdu.now t _ c.in_default-own.keys2 (is_read (goal.at.returns-in_default c).After-parse-reading) in
-    rw (c.with_clock-in_default.ensures, c.nothing-in_default.ensures, c.outcome.ensures) (ends-refused (saidIn start) (lentIn start) (there (goal.at.returns-in_default c).Else-not-well_formed) _ z.0 z.1)
+    let z = unread_says a.clock a.asdu.now t _ c.in_default.in_default-own.keys2 (is_read (goal.at.returns-in_default c).After-parse-reading) in
+    rw (c.with_clock-in_default.ensures, c.nothing-in_default.ensures, c.outcome.ensures) (ends_refused (saidIn (goal.at.returns-in_default c).Start) (lentIn (goal.at.returns-in_default c).Start) (there (goal.at.returns-in_default c).Else-not-well_formed) _ z.0 z.1)
 
 pub handle_ingress_asdu-requires : goal.handle_ingress_asdu-requires
 handle_ingress_asdu-requires c =
     (there (goal.at.handle_ingress_asdu-requires c).Else-not-well_formed, sym (is_read (goal.at.handle_ingress_asdu-requires c).After-parse-reading) ∙ c.in-Parsed.is)
-
-pub shape_of-table : goal.shape_of-table
-shape_of-table c = search rules
-
-pub shape_of-answer : goal.shape_of-answer
-shape_of-answer c = search rules
-
-pub returns : goal.returns
-returns c = search rules

@@ -1,6 +1,6 @@
 use native.Mathlib.Omega.{arith}
 use Rattle.octets.specs.Number.{Octets}
-use Rattle.updates.proofs.Turns.{Going, going_start, going-room, going_on, going_end}
+use Rattle.updates.proofs.Turns.{Going, going_start, going_room, going_on, going_end}
 use borrow.Author.Rules.{rules}
 use Rattle.updates.proofs.apply_model_updates.Goals as goal
 
@@ -16,26 +16,20 @@ apply_one-o-requires c =
     let l = c.loop-left in
     let g = l.invariant in
     let w = g.whole in
-    ((g.formed, omega arith), going-room a.m.now a.updates.now a.n a.out.now l.m l.out l.o l.at l.left g (omega arith) c.requires.2)
+    ((g.formed, omega arith), going_room a.m.now a.updates.now a.n a.out.now l.m l.out l.o l.at l.left g (omega arith) c.requires.2)
 
 pub overflow_add-at : goal.overflow_add-at
 overflow_add-at c =
     let w = c.loop-left.invariant.whole in omega arith
-
-pub overflow_sub-left : goal.overflow_sub-left
-overflow_sub-left c = search rules
-
-pub loop-left-smaller : goal.loop-left-smaller
-loop-left-smaller c = search rules
 
 pub loop-left-preserved : goal.loop-left-preserved
 loop-left-preserved c =
     let a = c.args in
     let l = c.loop-left in
     let p = c.apply_one-o in
-    let o : Octets p.new.0 = λ j. omega (arith, c.slice_known-in-loop-left-1.given j) in
+    let o : Octets c.apply_one-o.new.m = λ j. omega (arith, c.slice_known-in-loop-left-1.given j) in
     going_on a.m.now a.updates.now a.n a.out.now l.m l.out l.o l.at l.left l.invariant
-    p.new.0 p.new.1.1.1.0 p.result (omega arith) c.requires.2 o (omega arith) p.ensures.output.0 p.ensures.memory p.ensures.output.1
+    c.apply_one-o.new.m c.apply_one-o.new.out p.result (omega arith) c.requires.2 o (omega arith) p.ensures.output.0 p.ensures.memory p.ensures.output.1
 
 pub shape_of-m : goal.shape_of-m
 shape_of-m c = c.loop-left.invariant.same

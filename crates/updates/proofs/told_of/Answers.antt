@@ -6,40 +6,16 @@ use lib.ListN.{length, get_or}
 use Rattle.limits.specs.Size.{point_octets}
 use Rattle.octets.specs.Number.{Octets}
 use Rattle.answers.specs.Process.{update_type_offset}
-use Rattle.updates.proofs.Turns.{skipped-told, place-length}
+use Rattle.updates.proofs.Turns.{skipped_told, place_length}
 use borrow.Author.Rules.{rules}
 use Rattle.updates.proofs.told_of.Goals as goal
-
-pub can_apply_update-target-requires : goal.can_apply_update-target-requires
-can_apply_update-target-requires c = search rules
-
-pub enum_told-1 : goal.enum_told-1
-enum_told-1 c = search rules
-
-pub enum_told-in_default : goal.enum_told-in_default
-enum_told-in_default c = search rules
 
 pub returns-in_default : goal.returns-in_default
 returns-in_default c =
     let a = c.args in
     let m = a.m.now in
     let o : Octets m = λ j. omega (arith, c.shared_slice_known-1.given j) in
-    (sym (ap length (skipped-told m a.updates.now a.at o c.requires.0 (sym c.can_apply_update-target.ensures ∙ c.in_default.is))), omega arith)
-
-pub overflow_add-result : goal.overflow_add-result
-overflow_add-result c = search rules
-
-pub overflow_add-at : goal.overflow_add-at
-overflow_add-at c = search rules
-
-pub bounds-updates-at : goal.bounds-updates-at
-bounds-updates-at c = search rules
-
-pub point_octets-requires : goal.point_octets-requires
-point_octets-requires c = search rules
-
-pub overflow_add-result-2 : goal.overflow_add-result-2
-overflow_add-result-2 c = search rules
+    (sym (ap length (skipped_told m a.updates.now a.at o c.requires.0 (sym c.can_apply_update-target.ensures ∙ c.in_default.is))), omega arith)
 
 pub returns : goal.returns
 returns c =
@@ -47,6 +23,6 @@ returns c =
     let m = a.m.now in
     let us = a.updates.now in
     let o : Octets m = λ j. omega (arith, c.shared_slice_known-1.given j) in
-    let l = place-length m us a.at o c.requires.0 _ (sym c.can_apply_update-target.ensures ∙ c.in-Place.is) in
+    let l = place_length m us a.at o c.requires.0 _ (sym c.can_apply_update-target.ensures ∙ c.in-Place.is) in
     let n : c.point_octets.result ≡ point_octets (get_or us (a.at + update_type_offset) 0) = c.point_octets.ensures.0 in
     (omega arith, omega arith)

@@ -1,6 +1,6 @@
 use Rattle.limits.proofs.Shares.{unmet_is}
 use Rattle.limits.specs.declared.share.Share.{Share}
-use Rattle.wellformed.proofs.Turns.{sum-on, sum_end}
+use Rattle.wellformed.proofs.Turns.{sum_on, sum_end}
 use Rattle.octets.specs.Number.{two}
 use Rattle.layout.specs.Layout.{reservation_at, held_at}
 use Rattle.table.specs.Memory.{sum_at, unmet_at}
@@ -14,31 +14,10 @@ use Rattle.wellformed.proofs.add_up.Goals as goal
 pub loop-left-init : goal.loop-left-init
 loop-left-init c = (omega arith, omega arith, omega arith, omega arith, omega arith, omega arith, omega arith, omega arith)
 
-pub share_at-s-requires : goal.share_at-s-requires
-share_at-s-requires c = search rules
-
-pub overflow_add-reserved : goal.overflow_add-reserved
-overflow_add-reserved c = search rules
-
-pub overflow_add-held : goal.overflow_add-held
-overflow_add-held c = search rules
-
-pub unmet-unmet-requires : goal.unmet-unmet-requires
-unmet-unmet-requires c = search rules
-
 pub overflow_add-unmet : goal.overflow_add-unmet
 overflow_add-unmet c =
     let u = unmet_is c.share_at-s.result in
     omega arith
-
-pub overflow_add-station : goal.overflow_add-station
-overflow_add-station c = search rules
-
-pub overflow_sub-left : goal.overflow_sub-left
-overflow_sub-left c = search rules
-
-pub loop-left-smaller : goal.loop-left-smaller
-loop-left-smaller c = search rules
 
 pub loop-left-preserved : goal.loop-left-preserved
 loop-left-preserved c =
@@ -49,9 +28,9 @@ loop-left-preserved c =
     let r : s.reservation ≡ two m (l.station + 2) = ap (λ (x : Share). x.reservation) e in
     let h : s.held ≡ two m (l.station + 6) = ap (λ (x : Share). x.held) e in
     let u = unmet_is s in
-    let a = sum-on m l.station l.left (omega arith) reservation_at in
-    let b = sum-on m l.station l.left (omega arith) held_at in
-    let d = sum-on m l.station l.left (omega arith) unmet_at in
+    let a = sum_on m l.station l.left (omega arith) reservation_at in
+    let b = sum_on m l.station l.left (omega arith) held_at in
+    let d = sum_on m l.station l.left (omega arith) unmet_at in
     (omega arith, omega arith, omega arith, omega arith, omega arith, omega arith, omega arith, omega arith)
 
 pub returns : goal.returns

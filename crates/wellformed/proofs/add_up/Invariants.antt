@@ -1,6 +1,6 @@
 use Rattle.limits.proofs.Shares.{unmet_is}
 use Rattle.limits.specs.declared.share.Share.{Share}
-use Rattle.wellformed.proofs.Turns.{sum-on, sum_end}
+use Rattle.wellformed.proofs.Turns.{sum_on, sum_end}
 use Rattle.octets.specs.Number.{two}
 use Rattle.layout.specs.Layout.{reservation_at, held_at}
 use Rattle.table.specs.Memory.{sum_at, unmet_at}

@@ -6,7 +6,7 @@ use Rattle.octets.specs.Number.{two}
 use Rattle.model.specs.Place.{places_ok}
 use Rattle.layout.specs.Layout.{held_at}
 use Rattle.table.specs.Memory.{sum_at, bodies_at}
-use Rattle.wellformed.proofs.Turns.{sum-on, bodies-on, bodies-off, bodies_end}
+use Rattle.wellformed.proofs.Turns.{sum_on, bodies_on, bodies_off, bodies_end}
 use borrow.Author.Rules.{rules}
 use native.Mathlib.Omega.{arith}
 use Rattle.wellformed.proofs.bodies_ok.Given as goal

@@ -15,18 +15,9 @@ use Rattle.wellformed.proofs.head_ok.Goals as goal
 pub returns-then-m-lt-HEAD_SIZE : goal.returns-then-m-lt-HEAD_SIZE
 returns-then-m-lt-HEAD_SIZE c = no_head c.args.m.now (λ w. omega arith)
 
-pub mark_ok-requires : goal.mark_ok-requires
-mark_ok-requires c = search rules
-
 pub returns-then-not-mark_ok : goal.returns-then-not-mark_ok
 returns-then-not-mark_ok c =
-    no_head c.args.m.now (λ w. not_both (sym (not-true _ c.if-not-mark_ok.true) ∙ c.mark_ok.ensures ∙ w.mark))
-
-pub capacity_of-k-requires : goal.capacity_of-k-requires
-capacity_of-k-requires c = search rules
-
-pub stations_of-n-requires : goal.stations_of-n-requires
-stations_of-n-requires c = search rules
+    no_head c.args.m.now (λ w. not_both (sym c.if-not-mark_ok.true ∙ c.mark_ok.ensures ∙ w.mark))
 
 pub returns-then-k-lt1 : goal.returns-then-k-lt1
 returns-then-k-lt1 c =
@@ -44,22 +35,13 @@ pub returns-then-n-gt-MOST_STATIONS : goal.returns-then-n-gt-MOST_STATIONS
 returns-then-n-gt-MOST_STATIONS c =
     no_head c.args.m.now (λ w. omega arith)
 
-pub size_of-requires : goal.size_of-requires
-size_of-requires c = search rules
-
 pub returns-then-m-size_of : goal.returns-then-m-size_of
 returns-then-m-size_of c =
     no_head c.args.m.now (λ w. omega arith)
 
-pub settings_ok-requires : goal.settings_ok-requires
-settings_ok-requires c = search rules
-
 pub returns-then-not-settings_ok : goal.returns-then-not-settings_ok
 returns-then-not-settings_ok c =
-    no_head c.args.m.now (λ w. not_both (sym (not-true _ c.if-not-settings_ok.true) ∙ c.settings_ok.ensures ∙ w.settings))
-
-pub all_zero-requires : goal.all_zero-requires
-all_zero-requires c = search rules
+    no_head c.args.m.now (λ w. not_both (sym c.if-not-settings_ok.true ∙ c.settings_ok.ensures ∙ w.settings))
 
 pub returns : goal.returns
 unfolding head_at ◌&◌
@@ -71,6 +53,6 @@ returns c =
     let s_low : 1 ≤ stations_in m = omega arith in
     let s_high : stations_in m ≤ most_stations = omega arith in
     let room : size_in m ≤ length m = omega arith in
-    let mark = sym c.mark_ok.ensures ∙ not-false _ c.if-not-mark_ok.false in
-    let settings = sym c.settings_ok.ensures ∙ not-false _ c.if-not-settings_ok.false in
+    let mark = sym c.mark_ok.ensures ∙ c.if-not-mark_ok.false in
+    let settings = sym c.settings_ok.ensures ∙ c.if-not-settings_ok.false in
     simp (le-leb _ _ long, mark, le-leb _ _ k_low, le-leb _ _ k_high, le-leb _ _ s_low, le-leb _ _ s_high, le-leb _ _ room, settings) c.all_zero.ensures

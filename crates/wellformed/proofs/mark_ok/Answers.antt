@@ -5,9 +5,6 @@ use mathlib.Core.Path.{ap}
 use Prim.Native.Nat.{ℕ}
 use Rattle.wellformed.proofs.mark_ok.Goals as goal
 
-pub four_at-requires : goal.four_at-requires
-four_at-requires c = search rules
-
 pub returns : goal.returns
 unfolding mark_at
 returns c = ap (λ (x : ℕ). eqb x 22431819) c.four_at.ensures.0

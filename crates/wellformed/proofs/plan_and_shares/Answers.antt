@@ -8,25 +8,16 @@ use borrow.Author.Tests.{eq-eqb, ne_eqb, not-true, not-false}
 use mathlib.Core.Path.{◌≡◌, sym, ◌∙◌}
 use Rattle.wellformed.proofs.plan_and_shares.Goals as goal
 
-pub plan_ok-requires : goal.plan_ok-requires
-plan_ok-requires c = search rules
-
 pub returns-then-not-plan_ok : goal.returns-then-not-plan_ok
 unfolding shares_at ◌&◌
-returns-then-not-plan_ok c = simp (sym c.plan_ok.ensures ∙ not-true _ c.if-not-plan_ok.true)
-
-pub add_up-s-requires : goal.add_up-s-requires
-add_up-s-requires c = search rules
+returns-then-not-plan_ok c = simp (sym c.plan_ok.ensures ∙ c.if-not-plan_ok.true)
 
 pub returns-then-points-s : goal.returns-then-points-s
 unfolding shares_at ◌&◌
 returns-then-points-s c =
     let a = c.args in
     let q : a.points ≡ sum_at held_at a.m.now a.at a.n → ⊥ = omega arith in
-    simp (sym c.plan_ok.ensures ∙ not-false _ c.if-not-plan_ok.false, ne_eqb _ _ q)
-
-pub shares_ok-requires : goal.shares_ok-requires
-shares_ok-requires c = search rules
+    simp (sym c.plan_ok.ensures ∙ c.if-not-plan_ok.false, ne_eqb _ _ q)
 
 pub returns : goal.returns
 unfolding shares_at ◌&◌
@@ -34,4 +25,4 @@ returns c =
     let a = c.args in
     let q : a.points ≡ sum_at held_at a.m.now a.at a.n = omega arith in
     let s = c.add_up-s in
-    simp (sym c.plan_ok.ensures ∙ not-false _ c.if-not-plan_ok.false, eq-eqb _ _ q) (c.shares_ok.ensures ∙ (λ j. shares_ok a.k (s.ensures.0 j) a.points (s.ensures.2 j)))
+    simp (sym c.plan_ok.ensures ∙ c.if-not-plan_ok.false, eq-eqb _ _ q) (c.shares_ok.ensures ∙ (λ j. shares_ok a.k (s.ensures.0 j) a.points (s.ensures.2 j)))

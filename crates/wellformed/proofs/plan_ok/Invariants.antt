@@ -1,6 +1,6 @@
 use borrow.Author.Rules.{rules}
 use native.Mathlib.Omega.{arith}
-use Rattle.wellformed.proofs.Turns.{plan-on, plan-off, plan_end}
+use Rattle.wellformed.proofs.Turns.{plan_on, plan_off, plan_end}
 use Rattle.octets.specs.Number.{two}
 use Rattle.table.specs.Memory.{plan_at}
 use borrow.Author.Tests.{not-true, not-false}

@@ -1,15 +1,6 @@
 use borrow.Author.Rules.{rules}
 use Rattle.wellformed.proofs.share_at.Goals as goal
 
-pub reservation_at-r-requires : goal.reservation_at-r-requires
-reservation_at-r-requires c = search rules
-
-pub ceiling_at-c-requires : goal.ceiling_at-c-requires
-ceiling_at-c-requires c = search rules
-
-pub held_at-h-requires : goal.held_at-h-requires
-held_at-h-requires c = search rules
-
 pub returns : goal.returns
 returns c =
     let r = c.reservation_at-r.ensures in

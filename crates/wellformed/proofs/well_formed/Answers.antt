@@ -15,7 +15,7 @@ use Rattle.wellformed.proofs.well_formed.Goals.{After-plan_and_shares, Else-not-
 
 -- the head is good
 head : (c : Else-not-head_ok) → head_at c.args.m.now ≡ true
-head c = sym c.head_ok.ensures ∙ not-false _ c.if-not-head_ok.false
+head c = sym c.head_ok.ensures ∙ c.if-not-head_ok.false
 
 -- whether plan and shares are
 shares : (c : After-plan_and_shares) →
@@ -27,36 +27,27 @@ shares c =
     let n = c.points_of-points.ensures.0 in
     sym (c.plan_and_shares.ensures ∙ (λ j. shares_at c.args.m.now (k j) (64 + 48 * k j) (s j) (n j)))
 
-pub head_ok-requires : goal.head_ok-requires
-head_ok-requires c = search rules
-
 pub returns-then-not-head_ok : goal.returns-then-not-head_ok
 unfolding well_formed ◌&◌
-returns-then-not-head_ok c = simp (sym c.head_ok.ensures ∙ not-true _ c.if-not-head_ok.true)
+returns-then-not-head_ok c = simp (sym c.head_ok.ensures ∙ c.if-not-head_ok.true)
 
 pub capacity_of-k-requires : goal.capacity_of-k-requires
 capacity_of-k-requires c =
     let m = c.args.m.now in
-    let t = head_is m (sym c.head_ok.ensures ∙ not-false _ c.if-not-head_ok.false) in
+    let t = head_is m (sym c.head_ok.ensures ∙ c.if-not-head_ok.false) in
     omega arith
 
 pub stations_of-n-requires : goal.stations_of-n-requires
 stations_of-n-requires c =
     let m = c.args.m.now in
-    let t = head_is m (sym c.head_ok.ensures ∙ not-false _ c.if-not-head_ok.false) in
+    let t = head_is m (sym c.head_ok.ensures ∙ c.if-not-head_ok.false) in
     omega arith
 
 pub points_of-points-requires : goal.points_of-points-requires
 points_of-points-requires c =
     let m = c.args.m.now in
-    let t = head_is m (sym c.head_ok.ensures ∙ not-false _ c.if-not-head_ok.false) in
+    let t = head_is m (sym c.head_ok.ensures ∙ c.if-not-head_ok.false) in
     omega arith
-
-pub overflow_mul-k : goal.overflow_mul-k
-overflow_mul-k c = search rules
-
-pub overflow_add-k : goal.overflow_add-k
-overflow_add-k c = search rules
 
 pub plan_and_shares-requires : goal.plan_and_shares-requires
 plan_and_shares-requires c =
@@ -66,7 +57,7 @@ plan_and_shares-requires c =
 pub returns-then-not-plan_and_shares : goal.returns-then-not-plan_and_shares
 unfolding well_formed ◌&◌
 returns-then-not-plan_and_shares c =
-    simp (head (goal.at.returns-then-not-plan_and_shares c).Else-not-head_ok, shares (goal.at.returns-then-not-plan_and_shares c).After-plan_and_shares ∙ not-true _ c.if-not-plan_and_shares.true)
+    simp (head (goal.at.returns-then-not-plan_and_shares c).Else-not-head_ok, shares (goal.at.returns-then-not-plan_and_shares c).After-plan_and_shares ∙ c.if-not-plan_and_shares.true)
 
 pub places_and_unused-requires : goal.places_and_unused-requires
 places_and_unused-requires c =
@@ -74,7 +65,7 @@ places_and_unused-requires c =
     let s = c.stations_of-n.ensures.0 in
     let n = c.points_of-points.ensures.0 in
     let t = head_is c.args.m.now (head (goal.at.places_and_unused-requires c).Else-not-head_ok) in
-    let q = shares_is _ _ _ _ _ (shares (goal.at.places_and_unused-requires c).After-plan_and_shares ∙ not-false _ c.if-not-plan_and_shares.false) in
+    let q = shares_is _ _ _ _ _ (shares (goal.at.places_and_unused-requires c).After-plan_and_shares ∙ c.if-not-plan_and_shares.false) in
     (omega arith, omega arith, n ∙ q.count ∙ (λ j. sum_at held_at c.args.m.now (64 + 48 * sym k j) (sym s j)))
 
 pub returns : goal.returns
@@ -83,4 +74,4 @@ returns c =
     let k = c.capacity_of-k.ensures.0 in
     let s = c.stations_of-n.ensures.0 in
     let n = c.points_of-points.ensures.0 in
-    simp (head (goal.at.returns c).Else-not-head_ok, shares (goal.at.returns c).After-plan_and_shares ∙ not-false _ c.if-not-plan_and_shares.false) (c.places_and_unused.ensures ∙ (λ j. places_at c.args.m.now (k j) (s j) (n j)))
+    simp (head (goal.at.returns c).Else-not-head_ok, shares (goal.at.returns c).After-plan_and_shares ∙ c.if-not-plan_and_shares.false) (c.places_and_unused.ensures ∙ (λ j. places_at c.args.m.now (k j) (s j) (n j)))

@@ -7,12 +7,6 @@ use Rattle.asdu.proofs.command.first_object.Goals as goal
 pub returns-then-command-eq0 : goal.returns-then-command-eq0
 returns-then-command-eq0 c = simp (eq-eqb _ _ c.if-command-eq0.true)
 
-pub three_at-requires : goal.three_at-requires
-three_at-requires c = search rules
-
-pub overflow_add-result : goal.overflow_add-result
-overflow_add-result c = search rules
-
 pub returns : goal.returns
 returns c =
     let e = c.three_at.ensures.0 in

@@ -15,30 +15,12 @@ use Rattle.asdu.proofs.command.has_whole_objects.Goals as goal
 small : (n w : ℕ) → n < 256 → w ≤ 15 → n * w ≤ 256 * 15
 small n w a b = mul-le-mul {n₁ = n} {m₁ = w} {n₂ = 256} {m₂ = 15} (omega arith) (omega arith)
 
-pub bounds-asdu-1 : goal.bounds-asdu-1
-bounds-asdu-1 c = search rules
-
 pub returns-then-asdu-ge128 : goal.returns-then-asdu-ge128
 unfolding ◌&◌
 returns-then-asdu-ge128 c =
     let m = c.args.asdu.now in
     let flag : leb 128 (get_or m 1 0) ≡ true = le-leb 128 (get_or m 1 0) (omega arith) in
     simp flag
-
-pub bounds-asdu-1-2 : goal.bounds-asdu-1-2
-bounds-asdu-1-2 c = search rules
-
-pub wide-count-requires : goal.wide-count-requires
-wide-count-requires c = search rules
-
-pub bounds-asdu-0 : goal.bounds-asdu-0
-bounds-asdu-0 c = search rules
-
-pub element_octets-element-requires : goal.element_octets-element-requires
-element_octets-element-requires c = search rules
-
-pub overflow_add-result : goal.overflow_add-result
-overflow_add-result c = search rules
 
 pub overflow_mul-result : goal.overflow_mul-result
 overflow_mul-result c =

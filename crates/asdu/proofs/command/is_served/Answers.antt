@@ -6,21 +6,6 @@ use Rattle.asdu.specs.declared.command.Entry.{Entry}
 use Rattle.asdu.specs.Command.{is_system, is_process, serves}
 use Rattle.asdu.proofs.command.is_served.Goals as goal
 
-pub class_of-class-requires : goal.class_of-class-requires
-class_of-class-requires c = search rules
-
-pub enum_told-1 : goal.enum_told-1
-enum_told-1 c = search rules
-
-pub is_system-requires : goal.is_system-requires
-is_system-requires c = search rules
-
-pub enum_told-in-ProcessCommands : goal.enum_told-in-ProcessCommands
-enum_told-in-ProcessCommands c = search rules
-
-pub is_process-requires : goal.is_process-requires
-is_process-requires c = search rules
-
 pub returns-in-SystemCommands : goal.returns-in-SystemCommands
 returns-in-SystemCommands c =
     let kind = c.args.kind in

@@ -9,52 +9,46 @@ use Rattle.asdu.proofs.Reading.{header_there}
 use native.Mathlib.Omega.{arith}
 use Rattle.asdu.proofs.command.parse.Goals as goal
 
-pub is_length-requires : goal.is_length-requires
-is_length-requires c = search rules
-
 pub returns-then-not-is_length : goal.returns-then-not-is_length
 unfolding read_as
 returns-then-not-is_length c =
-    let L = sym c.is_length.ensures ∙ not-true _ c.if-not-is_length.true in
+    let L = sym c.is_length.ensures ∙ c.if-not-is_length.true in
     simp L
 
 pub bounds-asdu-0 : goal.bounds-asdu-0
 bounds-asdu-0 c =
-    let h = header_there c.args.limit (length c.args.asdu.now) (sym c.is_length.ensures ∙ not-false _ c.if-not-is_length.false) in
+    let h = header_there c.args.limit (length c.args.asdu.now) (sym c.is_length.ensures ∙ c.if-not-is_length.false) in
     omega arith
-
-pub is_served-requires : goal.is_served-requires
-is_served-requires c = search rules
 
 pub returns-then-not-is_served : goal.returns-then-not-is_served
 unfolding read_as
 returns-then-not-is_served c =
-    let L = sym c.is_length.ensures ∙ not-false _ c.if-not-is_length.false in
-    let S = sym c.is_served.ensures ∙ not-true _ c.if-not-is_served.true in
+    let L = sym c.is_length.ensures ∙ c.if-not-is_length.false in
+    let S = sym c.is_served.ensures ∙ c.if-not-is_served.true in
     simp (L, S)
 
 pub has_whole_objects-requires : goal.has_whole_objects-requires
 has_whole_objects-requires c =
-    let h = header_there c.args.limit (length c.args.asdu.now) (sym c.is_length.ensures ∙ not-false _ c.if-not-is_length.false) in
+    let h = header_there c.args.limit (length c.args.asdu.now) (sym c.is_length.ensures ∙ c.if-not-is_length.false) in
     omega arith
 
 pub returns-then-not-has_whole_objects : goal.returns-then-not-has_whole_objects
 unfolding read_as
 returns-then-not-has_whole_objects c =
-    let L = sym c.is_length.ensures ∙ not-false _ c.if-not-is_length.false in
-    let S = sym c.is_served.ensures ∙ not-false _ c.if-not-is_served.false in
-    let W = sym c.has_whole_objects.ensures ∙ not-true _ c.if-not-has_whole_objects.true in
+    let L = sym c.is_length.ensures ∙ c.if-not-is_length.false in
+    let S = sym c.is_served.ensures ∙ c.if-not-is_served.false in
+    let W = sym c.has_whole_objects.ensures ∙ c.if-not-has_whole_objects.true in
     simp (L, S, W)
 
 pub command_in-requires : goal.command_in-requires
 command_in-requires c =
-    let h = header_there c.args.limit (length c.args.asdu.now) (sym c.is_length.ensures ∙ not-false _ c.if-not-is_length.false) in
+    let h = header_there c.args.limit (length c.args.asdu.now) (sym c.is_length.ensures ∙ c.if-not-is_length.false) in
     omega arith
 
 pub returns : goal.returns
 unfolding read_as
 returns c =
-    let L = sym c.is_length.ensures ∙ not-false _ c.if-not-is_length.false in
-    let S = sym c.is_served.ensures ∙ not-false _ c.if-not-is_served.false in
-    let W = sym c.has_whole_objects.ensures ∙ not-false _ c.if-not-has_whole_objects.false in
+    let L = sym c.is_length.ensures ∙ c.if-not-is_length.false in
+    let S = sym c.is_served.ensures ∙ c.if-not-is_served.false in
+    let W = sym c.has_whole_objects.ensures ∙ c.if-not-has_whole_objects.false in
     simp (L, S, W) (ap Parsed c.command_in.ensures)

@@ -8,23 +8,11 @@ use Rattle.asdu.proofs.Lengths.{confirmation_octets}
 use native.Mathlib.Omega.{arith}
 use Rattle.asdu.proofs.confirmation.put_confirmation.Goals as goal
 
-pub overflow_add-end : goal.overflow_add-end
-overflow_add-end c = search rules
-
-pub overflow_add-end-2 : goal.overflow_add-end-2
-overflow_add-end-2 c = search rules
-
-pub slice_bounds-put_reply-count : goal.slice_bounds-put_reply-count
-slice_bounds-put_reply-count c = search rules
-
 pub put_reply-requires : goal.put_reply-requires
 put_reply-requires c =
     let a = c.args in
     let n : 6 + (3 + a.command.element) - 6 ≡ 3 + a.command.element = omega arith in
     (c.requires.0, rw n (simp (length-take, length-drop) (omega arith)))
-
-pub shape_of-out : goal.shape_of-out
-shape_of-out c = search rules
 
 pub returns : goal.returns
 returns c =

@@ -7,16 +7,10 @@ use Rattle.asdu.proofs.Lengths.{echo_octets}
 use Rattle.asdu.proofs.Laws.{lent_rest}
 use Rattle.asdu.proofs.confirmation.put_echo.Goals as goal
 
-pub slice_bounds-put_reply-count : goal.slice_bounds-put_reply-count
-slice_bounds-put_reply-count c = search rules
-
 pub put_reply-requires : goal.put_reply-requires
 put_reply-requires c =
     let n = lent_rest c.args.asdu.now 6 in
     (c.requires.0, rw n (simp length-drop (omega arith)))
-
-pub shape_of-out : goal.shape_of-out
-shape_of-out c = search rules
 
 pub returns : goal.returns
 returns c =

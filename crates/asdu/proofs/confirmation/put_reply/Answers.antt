@@ -5,17 +5,11 @@ use mathlib.Core.Path.{◌≡◌, ap}
 use Rattle.asdu.specs.declared.header.Header.{Header}
 use Rattle.asdu.proofs.confirmation.put_reply.Goals as goal
 
-pub reply_header-h-requires : goal.reply_header-h-requires
-reply_header-h-requires c = search rules
-
 pub put_asdu-requires : goal.put_asdu-requires
 put_asdu-requires c =
     let h : Header = c.reply_header-h.result in
     let e : h.cause ≡ c.args.cause = ap (λ (x : Header). x.cause) c.reply_header-h.ensures in
     (omega arith, c.requires.1)
-
-pub shape_of-out : goal.shape_of-out
-shape_of-out c = search rules
 
 pub returns : goal.returns
 returns c =

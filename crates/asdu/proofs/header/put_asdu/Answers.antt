@@ -11,19 +11,10 @@ use Rattle.asdu.proofs.header.put_asdu.Goals as goal
 pub put_header-requires : goal.put_header-requires
 put_header-requires c = (search rules, omega arith)
 
-pub copy_in-requires : goal.copy_in-requires
-copy_in-requires c = search rules
-
-pub overflow_add-result : goal.overflow_add-result
-overflow_add-result c = search rules
-
-pub shape_of-out : goal.shape_of-out
-shape_of-out c = search rules
-
 pub returns : goal.returns
 returns c =
     let a = c.args in
     let k = length_header a.h in
     let n = length_after a.h a.objects.now in
-    let e : c.copy_in.new.1.0 ≡ over (over a.out.now 0 (header a.h)) 6 a.objects.now = cc in
+    let e : c.copy_in.new.dst ≡ over (over a.out.now 0 (header a.h)) 6 a.objects.now = cc in
     (sym n, e ∙ over_over a.out.now (header a.h) a.objects.now 0 6 (omega arith) (omega arith))

@@ -6,20 +6,11 @@ use Rattle.asdu.proofs.Laws.{length_header}
 use native.Mathlib.Omega.{arith}
 use Rattle.asdu.proofs.header.put_header.Goals as goal
 
-pub header_octets-octets-requires : goal.header_octets-octets-requires
-header_octets-octets-requires c = search rules
-
-pub slice_bounds-copy_in-end : goal.slice_bounds-copy_in-end
-slice_bounds-copy_in-end c = search rules
-
 pub copy_in-requires : goal.copy_in-requires
 copy_in-requires c =
     let n = length_header c.args.h in
     let e = ap length c.header_octets-octets.ensures in
     omega arith
-
-pub shape_of-out : goal.shape_of-out
-shape_of-out c = search rules
 
 pub returns : goal.returns
 returns c =

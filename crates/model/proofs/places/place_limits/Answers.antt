@@ -11,20 +11,8 @@ use borrow.Author.Rules.{rules}
 use native.Mathlib.Omega.{arith}
 use Rattle.model.proofs.places.place_limits.Goals as goal
 
-pub point_sizes-sizes-requires : goal.point_sizes-sizes-requires
-point_sizes-sizes-requires c = search rules
-
 pub loop-kind-init : goal.loop-kind-init
 loop-kind-init c = (omega arith, filled_none)
-
-pub bounds-sizes-kind : goal.bounds-sizes-kind
-bounds-sizes-kind c = search rules
-
-pub wide-size-requires : goal.wide-size-requires
-wide-size-requires c = search rules
-
-pub offset_bounds-first-size : goal.offset_bounds-first-size
-offset_bounds-first-size c = search rules
 
 pub bounds-first-size : goal.bounds-first-size
 bounds-first-size c =
@@ -32,35 +20,11 @@ bounds-first-size c =
     size_is c.point_sizes-sizes.result c.loop-kind.kind c.wide-size.result c.point_sizes-sizes.ensures c.wide-size.ensures.0 in
     omega (arith, point_at_most c.loop-kind.kind)
 
-pub offset_bounds-limits-kind : goal.offset_bounds-limits-kind
-offset_bounds-limits-kind c = search rules
-
-pub bounds-limits-kind : goal.bounds-limits-kind
-bounds-limits-kind c = search rules
-
-pub offset_bounds-last-size : goal.offset_bounds-last-size
-offset_bounds-last-size c = search rules
-
 pub bounds-last-size : goal.bounds-last-size
 bounds-last-size c =
     let e : c.wide-size.result ≡ point_octets c.loop-kind.kind =
     size_is c.point_sizes-sizes.result c.loop-kind.kind c.wide-size.result c.point_sizes-sizes.ensures c.wide-size.ensures.0 in
     omega (arith, point_at_most c.loop-kind.kind)
-
-pub overflow_add-limits : goal.overflow_add-limits
-overflow_add-limits c = search rules
-
-pub offset_bounds-limits-kind-in-loop-kind : goal.offset_bounds-limits-kind-in-loop-kind
-offset_bounds-limits-kind-in-loop-kind c = search rules
-
-pub bounds-limits-kind-in-loop-kind : goal.bounds-limits-kind-in-loop-kind
-bounds-limits-kind-in-loop-kind c = search rules
-
-pub overflow_add-kind : goal.overflow_add-kind
-overflow_add-kind c = search rules
-
-pub loop-kind-smaller : goal.loop-kind-smaller
-loop-kind-smaller c = search rules
 
 pub loop-kind-preserved : goal.loop-kind-preserved
 unfolding values_from first_of last_of power
@@ -69,12 +33,6 @@ loop-kind-preserved c =
     size_is c.point_sizes-sizes.result c.loop-kind.kind c.wide-size.result c.point_sizes-sizes.ensures c.wide-size.ensures.0 in
     let l = c.loop-kind in
     (omega arith, filled_turn l.limits l.kind c.wide-size.result l.invariant.1 (omega arith) e)
-
-pub bounds-limits-97 : goal.bounds-limits-97
-bounds-limits-97 c = search rules
-
-pub bounds-limits-119 : goal.bounds-limits-119
-bounds-limits-119 c = search rules
 
 pub returns : goal.returns
 returns c =

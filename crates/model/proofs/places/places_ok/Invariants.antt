@@ -5,7 +5,7 @@ use lib.ListN.{length}
 use borrow.Author.Tests.{not-true, not-false}
 use Rattle.octets.specs.Number.{three}
 use Rattle.model.specs.Place.{places_ok}
-use Rattle.model.proofs.Within.{places-on, places-off, places_end}
+use Rattle.model.proofs.Within.{places_on, places_off, places_end}
 use borrow.Author.Rules.{rules}
 use native.Mathlib.Omega.{arith}
 use Rattle.model.proofs.places.places_ok.Given as goal

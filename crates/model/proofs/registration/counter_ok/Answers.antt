@@ -4,15 +4,6 @@ use borrow.Author.Rules.{rules}
 use Rattle.model.specs.Request.{counter_ok}
 use Rattle.model.proofs.registration.counter_ok.Goals as goal
 
-pub enum_told-1 : goal.enum_told-1
-enum_told-1 c = search rules
-
-pub enum_told-in-Number : goal.enum_told-in-Number
-enum_told-in-Number c = search rules
-
-pub is_counter-requires : goal.is_counter-requires
-is_counter-requires c = search rules
-
 pub returns-in-None : goal.returns-in-None
 returns-in-None c = sym (ap (counter_ok c.args.kind) c.in-None.is)
 

@@ -5,11 +5,5 @@ use borrow.Author.Rules.{rules}
 use native.Mathlib.Omega.{arith}
 use Rattle.model.proofs.registration.element_of.Goals as goal
 
-pub slice_bounds-clear-end : goal.slice_bounds-clear-end
-slice_bounds-clear-end c = search rules
-
-pub clear-requires : goal.clear-requires
-clear-requires c = search rules
-
 pub returns : goal.returns
 returns c = c.clear.ensures ∙ element_over _ _ (omega arith) (omega arith)

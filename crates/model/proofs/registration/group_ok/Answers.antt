@@ -8,12 +8,6 @@ use borrow.Author.Rules.{rules}
 use native.Mathlib.Omega.{arith}
 use Rattle.model.proofs.registration.group_ok.Goals as goal
 
-pub enum_told-1 : goal.enum_told-1
-enum_told-1 c = search rules
-
-pub enum_known-group : goal.enum_known-group
-enum_known-group c = search rules
-
 pub returns-then-g-lt1 : goal.returns-then-g-lt1
 unfolding ◌&◌
 returns-then-g-lt1 c =

@@ -13,18 +13,15 @@ use Rattle.model.proofs.registration.own_fault.Goals as goal
 use Rattle.model.proofs.registration.own_fault.Goals.{Else-not-group_ok-2}
 
 -- every test but the last passed
-but-counter : (c : Else-not-group_ok-2) →
+but_counter : (c : Else-not-group_ok-2) →
     let q = c.args.q in
     own_fault c.args.planned q ≡ pick (counter_ok q.kind q.counter) Done NotCounter
 unfolding own_fault ◌&◌
-but-counter c =
+but_counter c =
     let q = c.args.q in
     let k : 1 ≤ point_octets q.kind = omega arith in
     let a : q.ioa ≤ 16777215 = omega arith in
-    simp (le-leb _ _ k, le-leb _ _ a, not-false c.args.planned c.if-not-planned.false, sym c.group_ok.ensures ∙ not-false _ c.if-not-group_ok.false, sym c.group_ok-2.ensures ∙ not-false _ c.if-not-group_ok-2.false)
-
-pub point_octets-requires : goal.point_octets-requires
-point_octets-requires c = search rules
+    simp (le-leb _ _ k, le-leb _ _ a, not-false c.args.planned c.if-not-planned.false-raw, sym c.group_ok.ensures ∙ c.if-not-group_ok.false, sym c.group_ok-2.ensures ∙ c.if-not-group_ok-2.false)
 
 pub returns-then-point_octets-lt1 : goal.returns-then-point_octets-lt1
 unfolding own_fault ◌&◌
@@ -47,10 +44,7 @@ returns-then-not-planned c =
     let q = c.args.q in
     let k : 1 ≤ point_octets q.kind = omega arith in
     let a : q.ioa ≤ 16777215 = omega arith in
-    simp (le-leb _ _ k, le-leb _ _ a, not-true c.args.planned c.if-not-planned.true)
-
-pub group_ok-requires : goal.group_ok-requires
-group_ok-requires c = search rules
+    simp (le-leb _ _ k, le-leb _ _ a, not-true c.args.planned c.if-not-planned.true-raw)
 
 pub returns-then-not-group_ok : goal.returns-then-not-group_ok
 unfolding own_fault ◌&◌
@@ -58,10 +52,7 @@ returns-then-not-group_ok c =
     let q = c.args.q in
     let k : 1 ≤ point_octets q.kind = omega arith in
     let a : q.ioa ≤ 16777215 = omega arith in
-    simp (le-leb _ _ k, le-leb _ _ a, not-false c.args.planned c.if-not-planned.false, sym c.group_ok.ensures ∙ not-true _ c.if-not-group_ok.true)
-
-pub group_ok-requires-2 : goal.group_ok-requires-2
-group_ok-requires-2 c = search rules
+    simp (le-leb _ _ k, le-leb _ _ a, not-false c.args.planned c.if-not-planned.false-raw, sym c.group_ok.ensures ∙ c.if-not-group_ok.true)
 
 pub returns-then-not-group_ok-2 : goal.returns-then-not-group_ok-2
 unfolding own_fault ◌&◌
@@ -69,13 +60,10 @@ returns-then-not-group_ok-2 c =
     let q = c.args.q in
     let k : 1 ≤ point_octets q.kind = omega arith in
     let a : q.ioa ≤ 16777215 = omega arith in
-    simp (le-leb _ _ k, le-leb _ _ a, not-false c.args.planned c.if-not-planned.false, sym c.group_ok.ensures ∙ not-false _ c.if-not-group_ok.false, sym c.group_ok-2.ensures ∙ not-true _ c.if-not-group_ok-2.true)
-
-pub counter_ok-requires : goal.counter_ok-requires
-counter_ok-requires c = search rules
+    simp (le-leb _ _ k, le-leb _ _ a, not-false c.args.planned c.if-not-planned.false-raw, sym c.group_ok.ensures ∙ c.if-not-group_ok.false, sym c.group_ok-2.ensures ∙ c.if-not-group_ok-2.true)
 
 pub returns-then-not-counter_ok : goal.returns-then-not-counter_ok
-returns-then-not-counter_ok c = sym (but-counter (goal.at.returns-then-not-counter_ok c).Else-not-group_ok-2 ∙ ap (λ (b : Bool). pick b Done NotCounter) (sym c.counter_ok.ensures ∙ not-true _ c.if-not-counter_ok.true))
+returns-then-not-counter_ok c = sym (but_counter (goal.at.returns-then-not-counter_ok c).Else-not-group_ok-2 ∙ ap (λ (b : Bool). pick b Done NotCounter) (sym c.counter_ok.ensures ∙ c.if-not-counter_ok.true))
 
 pub returns : goal.returns
-returns c = sym (but-counter (goal.at.returns c).Else-not-group_ok-2 ∙ ap (λ (b : Bool). pick b Done NotCounter) (sym c.counter_ok.ensures ∙ not-false _ c.if-not-counter_ok.false))
+returns c = sym (but_counter (goal.at.returns c).Else-not-group_ok-2 ∙ ap (λ (b : Bool). pick b Done NotCounter) (sym c.counter_ok.ensures ∙ c.if-not-counter_ok.false))

@@ -17,15 +17,6 @@ use Rattle.output.proofs.Answer.{Ready, ready, short_wrote, short_written, full_
 use Rattle.output.proofs.data.put_data.Goals as goal
 use Rattle.output.proofs.data.put_data.Goals.{After-size_report-octets}
 
-pub slice_bounds-size_report-end : goal.slice_bounds-size_report-end
-slice_bounds-size_report-end c = search rules
-
-pub slice_bounds-size_report-end-2 : goal.slice_bounds-size_report-end-2
-slice_bounds-size_report-end-2 c = search rules
-
-pub slice_bounds-size_report-end-3 : goal.slice_bounds-size_report-end-3
-slice_bounds-size_report-end-3 c = search rules
-
 pub size_report-octets-requires : goal.size_report-octets-requires
 size_report-octets-requires c =
     let few = c.requires.2.1 in
@@ -37,7 +28,7 @@ size_report-octets-requires c =
 go : (c : After-size_report-octets)
     → let a = c.args in
     let z = c.size_report-octets in
-    Ready a.s a.m.now a.reach a.terms a.types.now z.new.1.1.1.1.1.0 z.new.1.1.1.1.1.1.0 z.new.1.1.1.1.1.1.1.0
+    Ready a.s a.m.now a.reach a.terms a.types.now c.size_report-octets.new.heads c.size_report-octets.new.next c.size_report-octets.new.counts
 go c =
     let a = c.args in
     let z = c.size_report-octets in
@@ -45,7 +36,7 @@ go c =
     let few = c.requires.2.1 in
     let hl = length-replicate {A = ℕ} 64 0 in
     let xl = length-replicate {A = ℕ} 4096 0 in
-    ready a.s a.m.now a.reach a.terms a.types.now (replicate 64 0) (replicate 4096 0) z.new.1.1.1.1.1.0 z.new.1.1.1.1.1.1.0 z.new.1.1.1.1.1.1.1.0
+    ready a.s a.m.now a.reach a.terms a.types.now (replicate 64 0) (replicate 4096 0) c.size_report-octets.new.heads c.size_report-octets.new.next c.size_report-octets.new.counts
     o c.requires.2 (omega arith) (omega arith) c.requires.4.0.0 c.requires.3.1 z.ensures.0
 
 -- its size is that of the data
@@ -54,12 +45,6 @@ size_in : (c : After-size_report-octets) →
     c.size_report-octets.result ≡ length (wire (data_of a.terms a.types.now a.s a.m.now a.reach))
 size_in c = c.size_report-octets.ensures.1 ∙ (go c).size
 
-pub overflow_add-octets : goal.overflow_add-octets
-overflow_add-octets c = search rules
-
-pub overflow_add-before : goal.overflow_add-before
-overflow_add-before c = search rules
-
 pub returns-then-out-before : goal.returns-then-out-before
 returns-then-out-before c =
     let a = c.args in
@@ -67,18 +52,6 @@ returns-then-out-before c =
     let xs = wire (data_of a.terms a.types.now a.s a.m.now a.reach) in
     let k = size_in (goal.at.returns-then-out-before c).After-size_report-octets in
     (short_wrote (length a.out.now) a.before a.after n xs k (omega arith), short_written a.out.now a.before a.after n xs k (omega arith))
-
-pub slice_bounds-put_report-count : goal.slice_bounds-put_report-count
-slice_bounds-put_report-count c = search rules
-
-pub slice_bounds-put_report-end-2 : goal.slice_bounds-put_report-end-2
-slice_bounds-put_report-end-2 c = search rules
-
-pub slice_bounds-put_report-end-3 : goal.slice_bounds-put_report-end-3
-slice_bounds-put_report-end-3 c = search rules
-
-pub slice_bounds-put_report-end-4 : goal.slice_bounds-put_report-end-4
-slice_bounds-put_report-end-4 c = search rules
 
 pub put_report-requires : goal.put_report-requires
 put_report-requires c =
@@ -96,9 +69,6 @@ put_report-requires c =
     let room = c.if-out-before.false in
     (c.requires.4, (c.requires.2, omega (arith, h), omega (arith, x), omega (arith, n), t.chains), omega (arith, k, e, room))
 
-pub shape_of-out : goal.shape_of-out
-shape_of-out c = search rules
-
 pub returns : goal.returns
 returns c =
     let a = c.args in
@@ -108,7 +78,7 @@ returns c =
     let k = size_in (goal.at.returns c).After-size_report-octets in
     let e = ap length t.octets in
     let room = c.if-out-before.false in
-    let X = report_on a.terms a.types.now a.m.now a.reach z.new.1.1.1.1.1.0 z.new.1.1.1.1.1.1.0 z.new.1.1.1.1.1.1.1.0 in (
+    let X = report_on a.terms a.types.now a.m.now a.reach c.size_report-octets.new.heads c.size_report-octets.new.next c.size_report-octets.new.counts in (
       full_wrote (length a.out.now) a.before a.after z.result xs k (omega (arith, room)),
       rw c.put_report.ensures.1
           (lent_over a.out.now X a.before (omega (arith, k, e, room)) ∙ ap (over a.out.now a.before) t.octets

@@ -10,16 +10,10 @@ use Rattle.chains.proofs.Chains.{length_counts}
 use Rattle.output.proofs.Answer.{order_taken, order_inside, order_long}
 use Rattle.output.proofs.data.size_report.Goals as goal
 
-pub slice_bounds-arrange-end : goal.slice_bounds-arrange-end
-slice_bounds-arrange-end c = search rules
-
 pub arrange-requires : goal.arrange-requires
 arrange-requires c =
     let z = length-replicate {A = ℕ} 4096 0 in
     (c.requires.0, omega arith)
-
-pub slice_bounds-link-end : goal.slice_bounds-link-end
-slice_bounds-link-end c = search rules
 
 pub link-requires : goal.link-requires
 link-requires c =
@@ -28,25 +22,16 @@ link-requires c =
     let o = c.arrange in
     let z = length-replicate {A = ℕ} 4096 0 in
     let few = c.requires.0.1 in
-    let l = order_long r.every a.m.now r.base r.n (replicate 4096 0) o.new.0 o.ensures (omega arith) in
-    (c.requires.0, (omega arith, order_inside r.every a.m.now r.base r.n (replicate 4096 0) o.new.0 o.ensures), c.requires.3)
+    let l = order_long r.every a.m.now r.base r.n (replicate 4096 0) c.arrange.new.order o.ensures (omega arith) in
+    (c.requires.0, (omega arith, order_inside r.every a.m.now r.base r.n (replicate 4096 0) c.arrange.new.order o.ensures), c.requires.3)
 
 pub report_octets-requires : goal.report_octets-requires
 report_octets-requires c =
     let a = c.args in
     let k = c.link in
     let o = c.arrange in
-    let n = ap length k.ensures.2 ∙ length_counts (slot_on a.s a.m.now a.reach.base) (take a.reach.n o.new.0) in
+    let n = ap length k.ensures.2 ∙ length_counts (slot_on a.s a.m.now a.reach.base) (take a.reach.n c.arrange.new.order) in
     (c.requires.1, c.requires.2, omega arith)
-
-pub shape_of-heads : goal.shape_of-heads
-shape_of-heads c = search rules
-
-pub shape_of-next : goal.shape_of-next
-shape_of-next c = search rules
-
-pub shape_of-counts : goal.shape_of-counts
-shape_of-counts c = search rules
 
 pub returns : goal.returns
 returns c =
@@ -54,6 +39,6 @@ returns c =
     let r = a.reach in
     let k = c.link in
     let o = c.arrange in
-    let e = order_taken r.every a.m.now r.base r.n (replicate 4096 0) o.new.0 o.ensures in
-    let linked = subst (λ (js : List ℕ). LinkedBy (slot_on a.s a.m.now r.base) js a.heads.now a.next.now k.new.1.1.1.1.0 k.new.1.1.1.1.1.0 k.new.1.1.1.1.1.1.0) e k.ensures in
+    let e = order_taken r.every a.m.now r.base r.n (replicate 4096 0) c.arrange.new.order o.ensures in
+    let linked = subst (λ (js : List ℕ). LinkedBy (slot_on a.s a.m.now r.base) js a.heads.now a.next.now c.link.new.heads c.link.new.next c.link.new.counts) e k.ensures in
     (linked, c.report_octets.ensures.0, c.report_octets.ensures.1)

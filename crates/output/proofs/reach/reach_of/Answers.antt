@@ -12,9 +12,6 @@ use Rattle.report.specs.declared.Reach.{Reach}
 use Rattle.output.specs.Reach.{seat_reach, reach_of}
 use Rattle.output.proofs.reach.reach_of.Goals as goal
 
-pub points_of-requires : goal.points_of-requires
-points_of-requires c = search rules
-
 pub returns-then-ca-eq-GLOBAL_COMMON_ADDRESS : goal.returns-then-ca-eq-GLOBAL_COMMON_ADDRESS
 unfolding reach_of
 returns-then-ca-eq-GLOBAL_COMMON_ADDRESS c =
@@ -22,15 +19,6 @@ returns-then-ca-eq-GLOBAL_COMMON_ADDRESS c =
     let t = eq-eqb a.ca global_address c.if-ca-eq-GLOBAL_COMMON_ADDRESS.true in
     ap (λ (n : ℕ). record { base = 64; n = n; every = true }) c.points_of.ensures.0
     ∙ ap (λ (b : Bool). pick {A = Reach} b (record { base = 64; n = two a.m.now 8; every = true }) (seat_reach (seat_at a.m.now a.ca))) (sym t)
-
-pub wide16-requires : goal.wide16-requires
-wide16-requires c = search rules
-
-pub seat_at-requires : goal.seat_at-requires
-seat_at-requires c = search rules
-
-pub seat_reach-requires : goal.seat_reach-requires
-seat_reach-requires c = search rules
 
 pub returns : goal.returns
 unfolding reach_of

@@ -4,12 +4,6 @@ use mathlib.Core.Path.{sym, ap}
 use Rattle.output.specs.Reach.{seat_reach}
 use Rattle.output.proofs.reach.seat_reach.Goals as goal
 
-pub enum_known-seat : goal.enum_known-seat
-enum_known-seat c = search rules
-
-pub enum_told-1 : goal.enum_told-1
-enum_told-1 c = search rules
-
 pub returns-in-Here : goal.returns-in-Here
 returns-in-Here c = sym (ap seat_reach c.in-Here.is)
 

@@ -15,15 +15,6 @@ use Rattle.chains.specs.Follow.{place_object}
 use Rattle.output.proofs.Alone.{single_over, single_long}
 use Rattle.output.proofs.single.put_front.Goals as goal
 
-pub bounds-m-at : goal.bounds-m-at
-bounds-m-at c = search rules
-
-pub point_octets-e-requires : goal.point_octets-e-requires
-point_octets-e-requires c = search rules
-
-pub data_header-h-requires : goal.data_header-h-requires
-data_header-h-requires c = search rules
-
 pub put_header-o-requires : goal.put_header-o-requires
 put_header-o-requires c =
     let a = c.args in
@@ -54,9 +45,6 @@ overflow_add-result-2 c =
     let e = c.point_octets-e.ensures.1 in
     omega arith
 
-pub shape_of-out : goal.shape_of-out
-shape_of-out c = search rules
-
 pub returns : goal.returns
 returns c =
     let a = c.args in
@@ -66,7 +54,7 @@ returns c =
     let l = length_header d.result in
     let s = single_long a.m.now a.at a.cause a.ca in
     let eo : g.result ≡ length (header (data_header (get_or a.m.now a.at 0) 1 a.cause a.ca)) = g.ensures.0 ∙ ap (λ (x : Header). length (header x)) d.ensures in
-    let w : g.new.0 ≡ over a.out.now 0 (header (data_header (get_or a.m.now a.at 0) 1 a.cause a.ca)) = g.ensures.1 ∙ ap (λ (x : Header). over a.out.now 0 (header x)) d.ensures in
+    let w : c.put_header-o.new.out ≡ over a.out.now 0 (header (data_header (get_or a.m.now a.at 0) 1 a.cause a.ca)) = g.ensures.1 ∙ ap (λ (x : Header). over a.out.now 0 (header x)) d.ensures in
     let o : Octets a.m.now = λ i. omega (arith, c.shared_slice_known-1.given i) in (
       omega (arith, g.ensures.0, p.ensures.0),
       c.put_object.ensures ∙ ap (λ (x : List ℕ). over x g.result (place_object p.result a.m.now a.at)) w

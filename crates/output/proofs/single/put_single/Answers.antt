@@ -7,18 +7,6 @@ use Rattle.model.specs.Place.{point_at}
 use Rattle.report.specs.Single.{single}
 use Rattle.output.proofs.single.put_single.Goals as goal
 
-pub slice_bounds-put_front-count : goal.slice_bounds-put_front-count
-slice_bounds-put_front-count c = search rules
-
-pub put_front-wrote-requires : goal.put_front-wrote-requires
-put_front-wrote-requires c = search rules
-
-pub overflow_add-result : goal.overflow_add-result
-overflow_add-result c = search rules
-
-pub shape_of-out : goal.shape_of-out
-shape_of-out c = search rules
-
 pub returns : goal.returns
 returns c =
     let a = c.args in
