@@ -141,6 +141,7 @@ passes_accepted t q w p r =
 -- At every turn the table is good and the request passes.
 pub turn_good : (t : Table) (qs : List Request) (u : Table) (r : Request) → Good t → Ready t qs → AllTwelve qs → Turn t qs u r → Good u × Passes u r
 unfolding AllTwelve
+turn_good t [] u r g _ w turned = elim turned [ ]
 turn_good t (q ∷ qs) u r g (ready_more p x y) w turn_now = (g, p)
 turn_good t (q ∷ qs) u r g (ready_more p x y) w (turn_later d l) =
     let a = passes_accepted t q w.0 p d in
