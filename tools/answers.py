@@ -41,6 +41,7 @@ class Function:
             self.needs[norm(old)] = new
             self.at[new] = oldplace
         self.loops, self.changed = d["loops"], d["changed"]
+        self.identifiers = set()
         self.by_norm = {norm(p): p for p in self.places}
 
     def need(self, name):
@@ -68,7 +69,7 @@ class Function:
 
     def resolve(self, top, place, words):
         """('place', P) or ('path', [words]) or None. Steps have names of their own, so how many `before` stand there says nothing more."""
-        words = list(words)
+        words = [w.replace("-", "_") if i and w.replace("-", "_") in self.identifiers else w for i, w in enumerate(words)]
         while words and words[0] == "before":
             place = self.parent[place] if place else None
             words.pop(0)
@@ -204,7 +205,7 @@ class Turned:
 
             return PATH.sub(one, chunk)
 
-        lets = re.compile(rf"let ({NAME}) = ({NAME})((?:\.[\w'-]+)*) in(\s*)")
+        lets = re.compile(rf"let ({NAME}) = ({NAME})((?:\.[\w'-]+)*) in(?![\w'-])(\s*)")
         out, pos = [], 0
         while True:
             m = lets.search(text, pos)
@@ -241,6 +242,16 @@ def simpler(text):
     return re.sub(rf"\(not-false _ ({NAME}(?:\.[\w'-]+)*)\.false-raw\)|not-false _ ({NAME}(?:\.[\w'-]+)*)\.false-raw", lambda m: (m.group(1) or m.group(2)) + ".false", text)
 
 
+def inline(lines, inlined):
+    """Puts in the place of `name start`, of an abbreviation over the function's start, what it says."""
+    text = "\n".join(lines)
+    for name, (var, body) in inlined.items():
+        said = lambda m: "(" + re.sub(rf"(?<![\w'.-]){re.escape(var)}(?=\.)", lambda w: m.group(1), body) + ")"
+        text = re.sub(rf"\({re.escape(name)} ({NAME})\)", said, text)
+        text = re.sub(rf"(?<![\w'.-]){re.escape(name)} ({NAME})(?![\w'.-])", said, text)
+    return text.split("\n")
+
+
 def dedash(text, names):
     return re.sub(r'[^\s(){}.;,@"«»]+', lambda m: names.get(m.group(0), m.group(0)), text)
 
@@ -260,9 +271,18 @@ def turn(path, f, module, crate):
                 local[m.group(1)] = m.group(1).replace("-", "_")
     goals = set()
     first = True
+    inlined = {}
+    for comment, lines in all_items:
+        m = lines and re.match(r"^abbrev (\S+) : tie\.Start → ", lines[0])
+        e = m and re.match(rf"^{re.escape(m.group(1))} ({NAME}) =\s*(.*)$", "\n".join(lines[1:]), re.S)
+        if e:
+            inlined[m.group(1)] = (e.group(1), " ".join(e.group(2).split()))
     for comment, lines in all_items:
         if not lines:
             continue
+        if lines[0].startswith("abbrev ") and lines[0].split()[1] in inlined:
+            continue
+        lines = inline(lines, inlined)
         if lines[0].startswith("use "):
             if first and comment:
                 head = comment
@@ -395,7 +415,9 @@ def main(argv):
             if "Tie as tie" not in open(path, encoding="utf-8").read():
                 print(f"look: {path}: walks by hand")
                 continue
-            turn(path, Function(d[key]), module, crate)
+            f = Function(d[key])
+            f.identifiers = {w for p in glob.glob("crates/*/src/*.rt") for w in re.findall(r"\w+_\w+", open(p, encoding="utf-8").read())}
+            turn(path, f, module, crate)
 
 
 if __name__ == "__main__":

@@ -23,8 +23,8 @@ returns-then-not-is_done c =
     let l = c.loop-i in
     let k = c.two_at-ca.ensures.0 in
     let t = c.turn-standing in
-    let s = t.ensures.0 ∙ ap (λ (x : ℕ). standing_at a.m.now l.taken (seat_at a.m.now x) l.free-now l.unmet-now) k in
-    let u = t.ensures.1 ∙ ap (λ (x : ℕ). taken_at a.m.now l.taken (seat_at a.m.now x) l.free-now l.unmet-now) k in
+    let s = t.ensures.0 ∙ ap (λ (x : ℕ). standing_at a.m.now l.taken (seat_at a.m.now x) c.loop-i.free_now c.loop-i.unmet_now) k in
+    let u = t.ensures.1 ∙ ap (λ (x : ℕ). taken_at a.m.now l.taken (seat_at a.m.now x) c.loop-i.free_now c.loop-i.unmet_now) k in
     let d = sym c.is_done.ensures ∙ c.if-not-is_done.true in (
       sym (l.invariant.0 ∙ run_stop _ _ _ _ _ _ _ (omega arith) t.result s d),
       u ∙ sym (l.invariant.1 ∙ taken_stop _ _ _ _ _ _ _ (omega arith) t.result s d),
@@ -36,8 +36,8 @@ loop-i-preserved c =
     let l = c.loop-i in
     let k = c.two_at-ca.ensures.0 in
     let t = c.turn-standing in
-    let s = t.ensures.0 ∙ ap (λ (x : ℕ). standing_at a.m.now l.taken (seat_at a.m.now x) l.free-now l.unmet-now) k in
-    let u = t.ensures.1 ∙ ap (λ (x : ℕ). taken_at a.m.now l.taken (seat_at a.m.now x) l.free-now l.unmet-now) k in
+    let s = t.ensures.0 ∙ ap (λ (x : ℕ). standing_at a.m.now l.taken (seat_at a.m.now x) c.loop-i.free_now c.loop-i.unmet_now) k in
+    let u = t.ensures.1 ∙ ap (λ (x : ℕ). taken_at a.m.now l.taken (seat_at a.m.now x) c.loop-i.free_now c.loop-i.unmet_now) k in
     let d = sym c.is_done.ensures ∙ c.if-not-is_done.false in (
       l.invariant.0 ∙ run_on_lem _ _ _ _ _ _ _ (omega arith) t.result s _ u d,
       l.invariant.1 ∙ taken_on _ _ _ _ _ _ _ (omega arith) t.result s _ u d,

@@ -23,43 +23,36 @@ use Rattle.batch_records.proofs.Laws.{stands_law}
 use Rattle.batch_tests.specs.Tests.{is_held}
 use Rattle.batch_tests.proofs.Laws.{fault_unplanned, fault_own, fault_twice, fault_known, fault_none, held_known}
 use Rattle.batch_tests.proofs.fault_at.Goals as goal
-use Rattle.batch_tests.proofs.fault_at.Goals.{After-is_done, After-is_held, After-own_fault-own, After-stands_flagged, In-Here-2, Start}
-
--- the record's request, and the requests before it
-abbrev requestIn : Start → Request
-requestIn s = request_at s.args.records.now (24 * s.args.i)
-
-abbrev earlierIn : Start → List Request
-earlierIn s = earlier_at s.args.records.now s.args.i
+use Rattle.batch_tests.proofs.fault_at.Goals.{After-is_done, After-is_held, After-own_fault-own, After-stands_flagged, In-Here}
 
 -- the station's seat
-seen : (c : In-Here-2) →
-    Seen c.args.m.now (requestIn c.before.before.before.before.before.before.before.before).ca c.in-Here.field-0 c.in-Here.first c.in-Here.held
+seen : (c : In-Here) →
+    Seen c.args.m.now (request_at c.args.records.now (24 * c.args.i)).ca c.in-Here.field-0 c.in-Here.first c.in-Here.held
 seen c =
     let m = c.args.m.now in
     let o : Octets m = λ j. omega (arith, c.shared_slice_known-1.given j) in
     seat_law m _ _ _ _ o c.requires.0 (ap (seat_at m) (sym c.two_at-ca.ensures.0) ∙ sym c.seat_at-seat.ensures ∙ c.in-Here.is)
 
 -- the tests of the record alone
-own : (c : After-own_fault-own) → c.own_fault-own.result ≡ own_fault true (requestIn c.before.before.before.before.before.before.before.before.before.before)
+own : (c : After-own_fault-own) → c.own_fault-own.result ≡ own_fault true (request_at c.args.records.now (24 * c.args.i))
 own c =
     c.own_fault-own.ensures ∙ ap (own_fault true) c.request_at-request.ensures
 
-own_done : (c : After-is_done) → is_done (own_fault true (requestIn c.before.before.before.before.before.before.before.before.before.before.before)) ≡ c.is_done.result
-own_done c = sym (c.is_done.ensures ∙ ap is_done (own c.before))
+own_done : (c : After-is_done) → is_done (own_fault true (request_at c.args.records.now (24 * c.args.i))) ≡ c.is_done.result
+own_done c = sym (c.is_done.ensures ∙ ap is_done (c.own_fault-own.ensures ∙ ap (own_fault true) c.request_at-request.ensures))
 
 -- whether an earlier record has its address
 stands : (c : After-stands_flagged) →
-    stands_in (requestIn c.before.before.before.before.before.before.before.before.before.before.before.before.before) (earlierIn c.before.before.before.before.before.before.before.before.before.before.before.before.before) ≡ c.stands_flagged.result
+    stands_in (request_at c.args.records.now (24 * c.args.i)) (earlier_at c.args.records.now c.args.i) ≡ c.stands_flagged.result
 stands c =
     let r = c.args.records.now in
-    stands_law r (requestIn c.before.before.before.before.before.before.before.before.before.before.before.before.before) c.args.i ∙ ap₂ (λ (x y : ℕ). stands_before r x y c.args.i) (sym c.two_at-ca.ensures.0) (sym c.four_at-ioa.ensures.0) ∙ sym c.stands_flagged.ensures
+    stands_law r (request_at c.args.records.now (24 * c.args.i)) c.args.i ∙ ap₂ (λ (x y : ℕ). stands_before r x y c.args.i) (sym c.two_at-ca.ensures.0) (sym c.four_at-ioa.ensures.0) ∙ sym c.stands_flagged.ensures
 
 -- whether the station holds its address
-holds : (c : After-is_held) →
-    known (requestIn c.before.before.before.before.before.before.before.before.before.before.before.before.before.before.before).ioa (seen c.before.before.before.before.before.before.before).seat.s.points ≡ c.is_held.result
-holds c =
-    sym (held_known c.args.m.now _ _ _ _ (requestIn c.before.before.before.before.before.before.before.before.before.before.before.before.before.before.before).ioa (seen c.before.before.before.before.before.before.before))
+holds : (c : After-is_held) (z : Seen c.args.m.now (request_at c.args.records.now (24 * c.args.i)).ca c.in-Here.field-0 c.in-Here.first c.in-Here.held) →
+    known (request_at c.args.records.now (24 * c.args.i)).ioa z.seat.s.points ≡ c.is_held.result
+holds c z =
+    sym (held_known c.args.m.now _ _ _ _ (request_at c.args.records.now (24 * c.args.i)).ioa z)
     ∙ ap (λ (x : ℕ). is_held (find_at c.args.m.now c.in-Here.first c.in-Here.held x)) (sym c.four_at-ioa.ensures.0) ∙ sym c.is_held.ensures
 
 pub seat_at-seat-requires : goal.seat_at-seat-requires
@@ -70,14 +63,15 @@ seat_at-seat-requires c =
 pub returns-in_default : goal.returns-in_default
 returns-in_default c =
     let m = c.args.m.now in
-    let q = requestIn (goal.at.returns-in_default c).Start in
+    let q = (request_at c.args.records.now (24 * c.args.i)) in
     let none-there : seat_at m q.ca ≡ NotPlanned = ap (seat_at m) (sym c.two_at-ca.ensures.0) ∙ sym c.seat_at-seat.ensures ∙ c.in_default.is in
-    c.own_fault.ensures ∙ ap (own_fault false) c.request_at-request.ensures ∙ fault_unplanned (table_of m) (earlierIn (goal.at.returns-in_default c).Start) q (absent_law m q.ca none-there)
+    c.own_fault.ensures ∙ ap (own_fault false) c.request_at-request.ensures ∙ fault_unplanned (table_of m) (earlier_at c.args.records.now c.args.i) q (absent_law m q.ca none-there)
 
 pub returns-then-not-is_done : goal.returns-then-not-is_done
 returns-then-not-is_done c =
-    let s = (seen (goal.at.returns-then-not-is_done c).In-Here-2).seat in
-    own (goal.at.returns-then-not-is_done c).After-own_fault-own ∙ fault_own (table_of c.args.m.now) (earlierIn (goal.at.returns-then-not-is_done c).Start) (requestIn (goal.at.returns-then-not-is_done c).Start) s.s s.is_station (own_done (goal.at.returns-then-not-is_done c).After-is_done ∙ c.if-not-is_done.true)
+    let z = seen (goal.at.returns-then-not-is_done c).In-Here in
+    let s = z.seat in
+    own (goal.at.returns-then-not-is_done c).After-own_fault-own ∙ fault_own (table_of c.args.m.now) (earlier_at c.args.records.now c.args.i) (request_at c.args.records.now (24 * c.args.i)) s.s s.is_station (own_done (goal.at.returns-then-not-is_done c).After-is_done ∙ c.if-not-is_done.true)
 
 pub stands_flagged-requires : goal.stands_flagged-requires
 stands_flagged-requires c =
@@ -85,23 +79,26 @@ stands_flagged-requires c =
 
 pub returns-then-stands_flagged : goal.returns-then-stands_flagged
 returns-then-stands_flagged c =
-    let s = (seen (goal.at.returns-then-stands_flagged c).In-Here-2).seat in
-    fault_twice (table_of c.args.m.now) (earlierIn (goal.at.returns-then-stands_flagged c).Start) (requestIn (goal.at.returns-then-stands_flagged c).Start) s.s s.is_station (own_done (goal.at.returns-then-stands_flagged c).After-is_done ∙ c.if-not-is_done.false) (stands (goal.at.returns-then-stands_flagged c).After-stands_flagged ∙ c.if-stands_flagged.true)
+    let z = seen (goal.at.returns-then-stands_flagged c).In-Here in
+    let s = z.seat in
+    fault_twice (table_of c.args.m.now) (earlier_at c.args.records.now c.args.i) (request_at c.args.records.now (24 * c.args.i)) s.s s.is_station (own_done (goal.at.returns-then-stands_flagged c).After-is_done ∙ c.if-not-is_done.false) (stands (goal.at.returns-then-stands_flagged c).After-stands_flagged ∙ c.if-stands_flagged.true)
 
 pub is_held-requires : goal.is_held-requires
 is_held-requires c =
     let p = passed c.args.m.now c.requires.0 in
     let few = p.few in
     let room = p.top.room in
-    let places = (seen (goal.at.is_held-requires c).In-Here-2).places in
+    let places = (seen (goal.at.is_held-requires c).In-Here).places in
     omega arith
 
 pub returns-then-is_held : goal.returns-then-is_held
 returns-then-is_held c =
-    let s = (seen (goal.at.returns-then-is_held c).In-Here-2).seat in
-    fault_known (table_of c.args.m.now) (earlierIn (goal.at.returns-then-is_held c).Start) (requestIn (goal.at.returns-then-is_held c).Start) s.s s.is_station (own_done (goal.at.returns-then-is_held c).After-is_done ∙ c.if-not-is_done.false) (stands (goal.at.returns-then-is_held c).After-stands_flagged ∙ c.if-stands_flagged.false) (holds (goal.at.returns-then-is_held c).After-is_held ∙ c.if-is_held.true)
+    let z = seen (goal.at.returns-then-is_held c).In-Here in
+    let s = z.seat in
+    fault_known (table_of c.args.m.now) (earlier_at c.args.records.now c.args.i) (request_at c.args.records.now (24 * c.args.i)) s.s s.is_station (own_done (goal.at.returns-then-is_held c).After-is_done ∙ c.if-not-is_done.false) (stands (goal.at.returns-then-is_held c).After-stands_flagged ∙ c.if-stands_flagged.false) (holds (goal.at.returns-then-is_held c).After-is_held z ∙ c.if-is_held.true)
 
 pub returns : goal.returns
 returns c =
-    let s = (seen (goal.at.returns c).In-Here-2).seat in
-    fault_none (table_of c.args.m.now) (earlierIn (goal.at.returns c).Start) (requestIn (goal.at.returns c).Start) s.s s.is_station (own_done (goal.at.returns c).After-is_done ∙ c.if-not-is_done.false) (stands (goal.at.returns c).After-stands_flagged ∙ c.if-stands_flagged.false) (holds (goal.at.returns c).After-is_held ∙ c.if-is_held.false)
+    let z = seen (goal.at.returns c).In-Here in
+    let s = z.seat in
+    fault_none (table_of c.args.m.now) (earlier_at c.args.records.now c.args.i) (request_at c.args.records.now (24 * c.args.i)) s.s s.is_station (own_done (goal.at.returns c).After-is_done ∙ c.if-not-is_done.false) (stands (goal.at.returns c).After-stands_flagged ∙ c.if-stands_flagged.false) (holds (goal.at.returns c).After-is_held z ∙ c.if-is_held.false)

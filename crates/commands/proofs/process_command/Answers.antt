@@ -15,14 +15,7 @@ use Rattle.answers.proofs.Ends.{ends_no_table}
 use Rattle.commands.specs.Entry.{proposal_of}
 use Rattle.commands.proofs.Laws.{gives, process_unread, process_read}
 use Rattle.commands.proofs.process_command.Goals as goal
-use Rattle.commands.proofs.process_command.Goals.{After-parse-reading, Else-not-well_formed, Start}
-
--- what is lent, and what is proposed
-abbrev lentIn : Start → Lent
-lentIn s = lent s.args.table.now [] s.args.answer.now s.args.spontaneous.now
-
-abbrev proposalIn : Start → Proposal
-proposalIn s = proposal_of s.args.negative s.args.reply-type s.args.reply.now s.args.updates.now
+use Rattle.commands.proofs.process_command.Goals.{After-parse-reading, Else-not-well_formed}
 
 -- the table is there
 there : (c : Else-not-well_formed) → well_formed c.args.table.now ≡ true
@@ -36,15 +29,15 @@ is_read c =
 pub returns-then-not-well_formed : goal.returns-then-not-well_formed
 returns-then-not-well_formed c =
     gives _ _ _ _ _ c.nothing.ensures
-    (ends_no_table (process_said [] (proposalIn (goal.at.returns-then-not-well_formed c).Start) c.args.asdu.now) (lentIn (goal.at.returns-then-not-well_formed c).Start) (sym c.well_formed-2.ensures ∙ c.if-not-well_formed.true))
+    (ends_no_table (process_said [] (proposal_of c.args.negative c.args.reply_type c.args.reply.now c.args.updates.now) c.args.asdu.now) (lent c.args.table.now [] c.args.answer.now c.args.spontaneous.now) (sym c.well_formed-2.ensures ∙ c.if-not-well_formed.true))
 
 pub limit_of-limit-requires : goal.limit_of-limit-requires
 limit_of-limit-requires c = there (goal.at.limit_of-limit-requires c).Else-not-well_formed
 
 pub returns-in_default : goal.returns-in_default
 returns-in_default c =
-    let l = lentIn (goal.at.returns-in_default c).Start in
-    let p = proposalIn (goal.at.returns-in_default c).Start in
+    let l = (lent c.args.table.now [] c.args.answer.now c.args.spontaneous.now) in
+    let p = (proposal_of c.args.negative c.args.reply_type c.args.reply.now c.args.updates.now) in
     let w = there (goal.at.returns-in_default c).Else-not-well_formed in
     process_read l l p c.args.asdu.now _ _ w (is_read (goal.at.returns-in_default c).After-parse-reading)
     (gives _ _ _ _ _ (c.nothing-in_default.ensures ∙ ap nothing c.outcome.ensures) (process_unread l p w _ c.in_default.in_default-own.keys2))
@@ -55,4 +48,4 @@ handle_process_command-requires c =
 
 pub returns : goal.returns
 returns c =
-    process_read (lentIn (goal.at.returns c).Start) _ (proposalIn (goal.at.returns c).Start) c.args.asdu.now _ _ (there (goal.at.returns c).Else-not-well_formed) (sym c.in-Parsed.is ∙ is_read (goal.at.returns c).After-parse-reading) c.handle_process_command.ensures
+    process_read (lent c.args.table.now [] c.args.answer.now c.args.spontaneous.now) _ (proposal_of c.args.negative c.args.reply_type c.args.reply.now c.args.updates.now) c.args.asdu.now _ _ (there (goal.at.returns c).Else-not-well_formed) (sym c.in-Parsed.is ∙ is_read (goal.at.returns c).After-parse-reading) c.handle_process_command.ensures

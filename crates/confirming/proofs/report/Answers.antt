@@ -22,20 +22,11 @@ use Rattle.confirming.proofs.Laws.{data_is, no_room, has_room, all_written}
 use borrow.Author.Rules.{rules}
 use native.Mathlib.Omega.{arith}
 use Rattle.confirming.proofs.report.Goals as goal
-use Rattle.confirming.proofs.report.Goals.{After-put_data, In-Octets-2, Start}
-
--- the data that the command asks for, and the octets before and after them
-abbrev dataIn : Start → List ℕ
-dataIn s =
-    wire (report (limit_of (table_of s.args.table.now)) s.args.types.now s.args.cause s.args.command.ca
-    (selected (selects s.args.selection) (points_for s.args.command.ca (table_of s.args.table.now).stations)))
-
-abbrev aroundIn : Start → ℕ
-aroundIn s = first_element + s.args.command.element
+use Rattle.confirming.proofs.report.Goals.{After-put_data, In-Octets-2}
 
 -- the data that are written are those
-same_data : (c : After-put_data) → (c.put_data.result ≡ wrote (length c.args.answer.now) (aroundIn c.before.before.before.before.before.before.before.before.before) (aroundIn c.before.before.before.before.before.before.before.before.before) (dataIn c.before.before.before.before.before.before.before.before.before))
-    × (c.put_data.new.out ≡ written c.args.answer.now (aroundIn c.before.before.before.before.before.before.before.before.before) (aroundIn c.before.before.before.before.before.before.before.before.before) (dataIn c.before.before.before.before.before.before.before.before.before))
+same_data : (c : After-put_data) → (c.put_data.result ≡ wrote (length c.args.answer.now) (first_element + c.args.command.element) (first_element + c.args.command.element) (wire (report (limit_of (table_of c.args.table.now)) c.args.types.now c.args.cause c.args.command.ca (selected (selects c.args.selection) (points_for c.args.command.ca (table_of c.args.table.now).stations)))))
+    × (c.put_data.new.out ≡ written c.args.answer.now (first_element + c.args.command.element) (first_element + c.args.command.element) (wire (report (limit_of (table_of c.args.table.now)) c.args.types.now c.args.cause c.args.command.ca (selected (selects c.args.selection) (points_for c.args.command.ca (table_of c.args.table.now).stations)))))
 same_data c =
     let a = c.args in
     let t = a.table.now in
@@ -48,10 +39,10 @@ same_data c =
     ∙ data_is (record { limit = limit_of (table_of t); cause = a.cause; ca = a.command.ca }) a.types.now a.selection t a.command.ca r.result r.ensures o c.requires.0) in
     let e = c.put_data.ensures in
     let out = a.answer.now in
-    (e.0 ∙ ap (wrote (length out) (aroundIn c.before.before.before.before.before.before.before.before.before) (aroundIn c.before.before.before.before.before.before.before.before.before)) d, e.1 ∙ ap (written out (aroundIn c.before.before.before.before.before.before.before.before.before) (aroundIn c.before.before.before.before.before.before.before.before.before)) d)
+    (e.0 ∙ ap (wrote (length out) (first_element + c.args.command.element) (first_element + c.args.command.element)) d, e.1 ∙ ap (written out (first_element + c.args.command.element) (first_element + c.args.command.element)) d)
 
 -- the whole fits
-room : (c : In-Octets-2) → aroundIn c.before.before.before.before.before.before.before.before.before.before.before.before.before + (c.in-Octets.octets + aroundIn c.before.before.before.before.before.before.before.before.before.before.before.before.before) ≤ length c.args.answer.now
+room : (c : In-Octets-2) → (first_element + c.args.command.element) + (c.in-Octets.octets + (first_element + c.args.command.element)) ≤ length c.args.answer.now
 room c =
     let a = c.args in
     has_room (table_of a.table.now) a.command a.asdu.now a.types.now a.cause a.selection a.answer.now c.requires.3.1 _

@@ -15,7 +15,7 @@ returns c =
     let a = c.args in
     let e = c.process_command.ensures in
     let l = lent a.table.now [] a.answer.now a.spontaneous.now in
-    let f : Bool → Table → Said = λ b. process_said [] (proposal_of b a.reply-type a.reply.now a.updates.now) a.asdu.now in
+    let f : Bool → Table → Said = λ b. process_said [] (proposal_of b c.args.reply_type a.reply.now a.updates.now) a.asdu.now in
     record {
       answered = c.answer_reply.ensures ∙ ap answer_reply e.answers ∙ (λ j. answer_reply (answered_on (f (c.is_set.ensures j)) l));
       left = e.leaves ∙ (λ j. lent_after (f (c.is_set.ensures j)) l);

@@ -18,13 +18,6 @@ use native.Mathlib.Omega.{arith}
 use Rattle.system_command_handler.proofs.dispatch_rtu_system_handler.Goals as goal
 use Rattle.system_command_handler.proofs.dispatch_rtu_system_handler.Goals.{Start}
 
--- what is lent, and what the command says
-abbrev lentIn : Start → Lent
-lentIn s = lent s.args.table.now s.args.clock s.args.answer.now []
-
-abbrev saidIn : Start → Table → Said
-saidIn s = command_said s.args.clock s.args.asdu.now s.args.command
-
 sizesIn : (s : Start) → Sizes s.args.asdu.now s.args.command
 sizesIn s = sizes_of (limit_of (table_of s.args.table.now)) s.args.asdu.now s.args.command s.requires.1
 
@@ -41,7 +34,7 @@ returns-then-kind-eq-C_IC_NA_1 c =
     let a = c.args in
     let o : Octets a.table.now = λ i. omega (arith, c.slice_known-1.given i) in
     let S = said_interrogation a.clock a.asdu.now a.command (table_of a.table.now) c.if-kind-eq-C_IC_NA_1.true in
-    rw c.with_clock.ensures (ends_says (saidIn (goal.at.returns-then-kind-eq-C_IC_NA_1 c).Start) (lentIn (goal.at.returns-then-kind-eq-C_IC_NA_1 c).Start) c.requires.0 o _ a.clock S _ _ _ c.handle_interrogation-answered.ensures (same_clock (is_done c.handle_interrogation-answered.result.outcome) a.clock))
+    rw c.with_clock.ensures (ends_says (command_said c.args.clock c.args.asdu.now c.args.command) (lent c.args.table.now c.args.clock c.args.answer.now []) c.requires.0 o _ a.clock S _ _ _ c.handle_interrogation-answered.ensures (same_clock (is_done c.handle_interrogation-answered.result.outcome) a.clock))
 
 pub handle_counter_interrogation-answered-requires : goal.handle_counter_interrogation-answered-requires
 handle_counter_interrogation-answered-requires c =
@@ -59,7 +52,7 @@ returns-then-kind-eq-C_CI_NA_1 c =
     let b = is_done c.handle_counter_interrogation-answered.result.outcome in
     let t = a.table.now in
     rw c.with_clock-then-kind-eq-C_CI_NA_1.ensures
-    (ends_sent (saidIn (goal.at.returns-then-kind-eq-C_CI_NA_1 c).Start) (lentIn (goal.at.returns-then-kind-eq-C_CI_NA_1 c).Start) c.requires.0 _ (ap (λ (s : Said). s.outcome) S) (ap (λ (s : Said). s.told) S) (ap (λ (s : Said). s.answer) S) _ _ _ _ e.0
+    (ends_sent (command_said c.args.clock c.args.asdu.now c.args.command) (lent c.args.table.now c.args.clock c.args.answer.now []) c.requires.0 _ (ap (λ (s : Said). s.outcome) S) (ap (λ (s : Said). s.told) S) (ap (λ (s : Said). s.answer) S) _ _ _ _ e.0
     (e.1 ∙ ap (λ (u : Table). pick b (holding t (table_of t) u) t) (sym (ap (λ (s : Said). s.after) S)))
     (same_clock b a.clock ∙ ap (λ (k : List ℕ). pick b k a.clock) (sym (ap (λ (s : Said). s.clock) S))))
 
@@ -74,7 +67,7 @@ returns-then-kind-eq-C_RD_NA_1 c =
     let a = c.args in
     let o : Octets a.table.now = λ i. omega (arith, c.slice_known-1.given i) in
     let S = said_read a.clock a.asdu.now a.command (table_of a.table.now) c.if-kind-eq-C_IC_NA_1.false c.if-kind-eq-C_CI_NA_1.false c.if-kind-eq-C_RD_NA_1.true in
-    rw c.with_clock-then-kind-eq-C_RD_NA_1.ensures (ends_says (saidIn (goal.at.returns-then-kind-eq-C_RD_NA_1 c).Start) (lentIn (goal.at.returns-then-kind-eq-C_RD_NA_1 c).Start) c.requires.0 o _ a.clock S _ _ _ c.handle_read.ensures (same_clock (is_done c.handle_read.result.outcome) a.clock))
+    rw c.with_clock-then-kind-eq-C_RD_NA_1.ensures (ends_says (command_said c.args.clock c.args.asdu.now c.args.command) (lent c.args.table.now c.args.clock c.args.answer.now []) c.requires.0 o _ a.clock S _ _ _ c.handle_read.ensures (same_clock (is_done c.handle_read.result.outcome) a.clock))
 
 pub handle_clock_sync-requires : goal.handle_clock_sync-requires
 handle_clock_sync-requires c =
@@ -88,7 +81,7 @@ returns-then-kind-eq-C_CS_NA_1 c =
     let o : Octets a.table.now = λ i. omega (arith, c.slice_known-1.given i) in
     let S = said_clock a.clock a.asdu.now a.command (table_of a.table.now) c.if-kind-eq-C_IC_NA_1.false c.if-kind-eq-C_CI_NA_1.false c.if-kind-eq-C_RD_NA_1.false c.if-kind-eq-C_CS_NA_1.true in
     let e = c.handle_clock_sync.ensures in
-    ends_says (saidIn (goal.at.returns-then-kind-eq-C_CS_NA_1 c).Start) (lentIn (goal.at.returns-then-kind-eq-C_CS_NA_1 c).Start) c.requires.0 o _ _ S _ _ _ e.0 e.1
+    ends_says (command_said c.args.clock c.args.asdu.now c.args.command) (lent c.args.table.now c.args.clock c.args.answer.now []) c.requires.0 o _ _ S _ _ _ e.0 e.1
 
 pub echo-requires : goal.echo-requires
 echo-requires c =
@@ -99,4 +92,4 @@ returns c =
     let a = c.args in
     let o : Octets a.table.now = λ i. omega (arith, c.slice_known-1.given i) in
     let S = said_echo a.clock a.asdu.now a.command (table_of a.table.now) c.if-kind-eq-C_IC_NA_1.false c.if-kind-eq-C_CI_NA_1.false c.if-kind-eq-C_RD_NA_1.false c.if-kind-eq-C_CS_NA_1.false in
-    rw c.with_clock-2.ensures (ends_says (saidIn (goal.at.returns c).Start) (lentIn (goal.at.returns c).Start) c.requires.0 o _ a.clock S _ _ _ c.echo.ensures (same_clock (is_done c.echo.result.outcome) a.clock))
+    rw c.with_clock-2.ensures (ends_says (command_said c.args.clock c.args.asdu.now c.args.command) (lent c.args.table.now c.args.clock c.args.answer.now []) c.requires.0 o _ a.clock S _ _ _ c.echo.ensures (same_clock (is_done c.echo.result.outcome) a.clock))

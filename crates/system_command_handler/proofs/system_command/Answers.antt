@@ -15,14 +15,7 @@ use Rattle.answers.proofs.Ends.{ends_no_table, ends_refused}
 use Rattle.system_command_handler.proofs.Ways.{unread_says}
 use borrow.Author.Rules.{rules}
 use Rattle.system_command_handler.proofs.system_command.Goals as goal
-use Rattle.system_command_handler.proofs.system_command.Goals.{After-parse-reading, Else-not-well_formed, Start}
-
--- what is lent, and what the command says
-abbrev lentIn : Start → Lent
-lentIn s = lent s.args.table.now s.args.clock s.args.answer.now []
-
-abbrev saidIn : Start → Table → Said
-saidIn s = system_said s.args.clock s.args.asdu.now
+use Rattle.system_command_handler.proofs.system_command.Goals.{After-parse-reading, Else-not-well_formed}
 
 -- the table is there
 there : (c : Else-not-well_formed) → well_formed c.args.table.now ≡ true
@@ -36,7 +29,7 @@ is_read c =
 pub returns-then-not-well_formed : goal.returns-then-not-well_formed
 returns-then-not-well_formed c =
     let w : well_formed c.args.table.now ≡ false = sym c.well_formed-2.ensures ∙ c.if-not-well_formed.true in
-    rw (c.with_clock.ensures, c.nothing.ensures) (ends_no_table (saidIn (goal.at.returns-then-not-well_formed c).Start) (lentIn (goal.at.returns-then-not-well_formed c).Start) w)
+    rw (c.with_clock.ensures, c.nothing.ensures) (ends_no_table (system_said c.args.clock c.args.asdu.now) (lent c.args.table.now c.args.clock c.args.answer.now []) w)
 
 pub limit_of-limit-requires : goal.limit_of-limit-requires
 limit_of-limit-requires c = there (goal.at.limit_of-limit-requires c).Else-not-well_formed
@@ -46,7 +39,7 @@ returns-in_default c =
     let a = c.args in
     let t = table_of a.table.now in
     let z = unread_says a.clock a.asdu.now t _ c.in_default.in_default-own.keys2 (is_read (goal.at.returns-in_default c).After-parse-reading) in
-    rw (c.with_clock-in_default.ensures, c.nothing-in_default.ensures, c.outcome.ensures) (ends_refused (saidIn (goal.at.returns-in_default c).Start) (lentIn (goal.at.returns-in_default c).Start) (there (goal.at.returns-in_default c).Else-not-well_formed) _ z.0 z.1)
+    rw (c.with_clock-in_default.ensures, c.nothing-in_default.ensures, c.outcome.ensures) (ends_refused (system_said c.args.clock c.args.asdu.now) (lent c.args.table.now c.args.clock c.args.answer.now []) (there (goal.at.returns-in_default c).Else-not-well_formed) _ z.0 z.1)
 
 pub handle_ingress_asdu-requires : goal.handle_ingress_asdu-requires
 handle_ingress_asdu-requires c =
