@@ -2,7 +2,7 @@
 -- Document 01, 'What each command says': a small record of seven octets and a known flag, changed in place.
 use Rattle.std.specs.Prelude.{ℕ, List, [], ◌∷◌, ◌++◌, Bool, false, not, take, get_or, replicate, eqb}
 use denote.Triple.Both.{Both}
-use Rattle.std.specs.Borrow.{Bor}
+use Rattle.std.specs.Borrow.{MutBor}
 use Rattle.limits.specs.Test.{pick}
 use Rattle.answers.specs.declared.Answered.{Answered}
 use Rattle.answers.specs.Said.{as_it_is, Leaves}
@@ -31,6 +31,6 @@ abbrev pub clock_of : List ℕ → Clock
 clock_of m = record { octets = take 7 m; known = not (eqb (get_or m 7 0) 0) }
 
 -- What a system command gives back and leaves, the clock before and after it being records.
-abbrev pub Answers : List ℕ → Both (Bor (List ℕ)) (Bor (List ℕ)) → Clock → Both (Bor (List ℕ)) (Bor (List ℕ)) → Answered → Clock → Type 0
+abbrev pub Answers : List ℕ → Both (MutBor (List ℕ)) (MutBor (List ℕ)) → Clock → Both (MutBor (List ℕ)) (MutBor (List ℕ)) → Answered → Clock → Type 0
 Answers asdu table before answer r after =
     Leaves as_it_is (system_said (octets_of before) asdu) (at_entry table (octets_of before) answer) r (at_exit table (octets_of after) answer)

@@ -1,15 +1,12 @@
 -- The ways out of a process command, as the code goes: each gives back what `answered_on` says and leaves the memories that `lent_after` says. Assumes nothing.
 use mathlib.Core.Path.{◌≡◌, refl, sym, ap, ◌∙◌}
 use mathlib.Core.List.{List, [], ◌∷◌}
-use mathlib.Core.Logic.{⊎_elim}
 use mathlib.Core.Bool.{Bool, true, false}
 use mathlib.Core.Option.{some}
 use Prim.Native.Nat.{ℕ, ◌+◌, ◌/◌, ◌≤◌, ◌<◌}
 use native.Mathlib.Omega.{arith}
 use lib.ListN.{length}
 use borrow.Author.Tests.{le-leb, lt-leb}
-use types.Run.{OneOf}
-use denote.Enum.Declared.{tag_of}
 use Rattle.limits.specs.Test.{pick}
 use Rattle.limits.specs.Size.{header_octets}
 use Rattle.limits.specs.declared.outcome.Outcome.TheVariants.{Done, Silent, AnswerShort, SpontaneousShort, BadProposal}
@@ -24,7 +21,6 @@ use Rattle.asdu.specs.declared.command.Reading.{Reading}
 use Rattle.asdu.specs.declared.command.Reading.TheVariants.{LengthOutOfRange, TypeNotServed, ObjectsNotWhole, Parsed}
 use Rattle.asdu.specs.declared.command.Entry.TheVariants.{ProcessCommands}
 use Rattle.asdu.specs.Command.{read_as, outcome_of}
-use Rattle.asdu.specs.contracts.command.Reading.{the_type}
 use Rattle.asdu.specs.Header.{Asdu, asdu_octets, wire}
 use Rattle.asdu.specs.Puts.{Puts}
 use Rattle.asdu.proofs.Laws.{wire_one}
@@ -168,13 +164,13 @@ module _ (l : Lent) (negative : Bool) (kind : ℕ) (objects us : List ℕ) (c : 
 -- ---- what was read
 
 -- No command was read: its number.
-pub process_unread : (l : Lent) (p : Proposal) → well_formed l.table ≡ true → (x : Reading) → OneOf (0 ∷ 1 ∷ 2 ∷ []) (tag_of the_type x)
+pub process_unread : (l : Lent) (p : Proposal) → well_formed l.table ≡ true → (x : Reading) → ((c : Command) → x ≡ Parsed c → ⊥)
     → Leaves as_it_is (process_from l.clock p x) l (nothing (outcome_of x)) l
 unfolding process_from
 process_unread l p w LengthOutOfRange k = ends_refused _ l w (outcome_of LengthOutOfRange) refl refl
 process_unread l p w TypeNotServed k = ends_refused _ l w (outcome_of TypeNotServed) refl refl
 process_unread l p w ObjectsNotWhole k = ends_refused _ l w (outcome_of ObjectsNotWhole) refl refl
-process_unread l p w (Parsed c) k = absurd (⊎_elim (λ e. omega arith) (λ v. ⊎_elim (λ e. omega arith) (λ e. omega arith) v) k)
+process_unread l p w (Parsed c) k = absurd (k c refl)
 
 -- What is met of what was read is met of the ASDU.
 pub process_read : (l l' : Lent) (p : Proposal) (m : List ℕ) (r : Answered) (x : Reading) → well_formed l.table ≡ true

@@ -1,7 +1,7 @@
 -- The arguments of the entry for process commands as the definitions of `answers` have them.
 use Rattle.std.specs.Prelude.{ℕ, ◌+◌, ◌%◌, ◌≡◌, List, [], Bool, length}
 use denote.Triple.Both.{Both}
-use Rattle.std.specs.Borrow.{Bor}
+use Rattle.std.specs.Borrow.{Bor, MutBor}
 use Rattle.limits.specs.Size.{address_octets, element_octets}
 use Rattle.answers.specs.Said.{Lent, lent}
 use Rattle.answers.specs.Process.{Proposal, updates_in}
@@ -12,10 +12,14 @@ proposal_of negative kind objects updates = record { negative = negative; kind =
 
 -- A memory that is lent to a call: as the call finds it, and as it leaves it.
 abbrev pub Memory : Type 0
-Memory = Both (Bor (List ℕ)) (Bor (List ℕ))
+Memory = Both (MutBor (List ℕ)) (MutBor (List ℕ))
+
+-- A memory that a call only reads.
+abbrev pub Read : Type 0
+Read = Both (Bor (List ℕ)) (Bor (List ℕ))
 
 -- The same of a caller's slices.
-abbrev pub proposed : Bool → ℕ → Memory → Memory → Proposal
+abbrev pub proposed : Bool → ℕ → Read → Read → Proposal
 proposed negative kind reply updates = proposal_of negative kind reply.entry.now updates.entry.now
 
 -- The three memories of a process command as it finds them; it has no clock.

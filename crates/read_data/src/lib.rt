@@ -87,8 +87,8 @@ pub fn put_requested(
     command: Command,
     asdu: &[u8],
 ) -> usize
-    requires h_in_bounds { (first + place_size * h ≤ length m.now) × (object_at 0 command.count ≤ length asdu.now) }
-    requires asdu_in_bounds { from + size (requested_by m.now first h command asdu.now) ≤ length out.old }
+    requires inside { (first + place_size * h ≤ length m.now) × (object_at 0 command.count ≤ length asdu.now) }
+    requires fits { from + size (requested_by m.now first h command asdu.now) ≤ length out.old }
     ensures { PutsAt from (wire (requested_by m.now first h command asdu.now)) out.old result out.new }
 {
     let mut o = from;

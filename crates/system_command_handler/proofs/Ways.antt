@@ -4,11 +4,7 @@ use mathlib.Core.Path.{◌≡◌, refl, sym, ap, ◌∙◌}
 use mathlib.Core.List.{List, [], ◌∷◌}
 use mathlib.Core.Bool.{Bool, true, false}
 use Prim.Native.Nat.{ℕ, ◌≤◌, ◌<◌}
-use mathlib.Core.Logic.{⊎_elim}
-use types.Run.{OneOf}
-use denote.Enum.Declared.{tag_of}
 use Rattle.table.specs.Settings.{limit_of}
-use Rattle.asdu.specs.contracts.command.Reading.{the_type}
 use Rattle.answers.specs.System.{echoed, points_read, qualifier_of, interrogation_answer, counter_answer, after_counters, read_answer, clock_from, is_silent, command_said, system_from, system_said}
 use native.Mathlib.Omega.{arith}
 use lib.ListN.{length}
@@ -101,16 +97,16 @@ silent_some c m h = let n : c.count ≡ 0 → ⊥ = λ q. omega arith in simp (n
 
 module _ (clock m : List ℕ) (t : Table) where
   -- No command was read: its number.
-  pub unread_says : (r : Reading) → OneOf (0 ∷ 1 ∷ 2 ∷ []) (tag_of the_type r) → r ≡ read_as (limit_of t) SystemCommands m
+  pub unread_says : (r : Reading) → ((c : Command) → r ≡ Parsed c → ⊥) → r ≡ read_as (limit_of t) SystemCommands m
       → ((system_said clock m t).outcome ≡ outcome_of r) × (is_done (outcome_of r) ≡ false)
   unfolding system_from
   unread_says r k e = let z = by_reading r k in (ap (λ (x : Reading). (system_from clock m x t).outcome) (sym e) ∙ z.0, z.1)
     where
-      by_reading : (x : Reading) → OneOf (0 ∷ 1 ∷ 2 ∷ []) (tag_of the_type x) → ((system_from clock m x t).outcome ≡ outcome_of x) × (is_done (outcome_of x) ≡ false)
+      by_reading : (x : Reading) → ((c : Command) → x ≡ Parsed c → ⊥) → ((system_from clock m x t).outcome ≡ outcome_of x) × (is_done (outcome_of x) ≡ false)
       by_reading LengthOutOfRange k' = (refl, refl)
       by_reading TypeNotServed k' = (refl, refl)
       by_reading ObjectsNotWhole k' = (refl, refl)
-      by_reading (Parsed c) k' = absurd (⊎_elim (λ e. omega arith) (λ v. ⊎_elim (λ e. omega arith) (λ e. omega arith) v) k')
+      by_reading (Parsed c) k' = absurd (k' c refl)
 
   module _ (c : Command) (e : read_as (limit_of t) SystemCommands m ≡ Parsed c) where
     -- A command that is passed over.

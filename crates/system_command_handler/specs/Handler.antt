@@ -1,7 +1,7 @@
 -- The memories that are lent to the entry for system commands, and what its code makes of a command.
 use Rattle.std.specs.Prelude.{ℕ, List, [], Bool, ◌||◌, not, eqb}
 use denote.Triple.Both.{Both}
-use Rattle.std.specs.Borrow.{Bor}
+use Rattle.std.specs.Borrow.{MutBor}
 use Rattle.limits.specs.Test.{◌&◌}
 use Rattle.asdu.specs.declared.command.Command.{Command}
 use Rattle.answers.specs.declared.Answered.{Answered}
@@ -10,11 +10,11 @@ use Rattle.answers.specs.System.{interrogation_type, cause_taken, qualifier_of}
 use Rattle.system_command_handler.specs.declared.SystemAnswered.{SystemAnswered}
 
 -- Table and answer memory as a call finds them, with the clock that it is handed; it has no spontaneous memory.
-abbrev pub at_entry : Both (Bor (List ℕ)) (Bor (List ℕ)) → List ℕ → Both (Bor (List ℕ)) (Bor (List ℕ)) → Lent
+abbrev pub at_entry : Both (MutBor (List ℕ)) (MutBor (List ℕ)) → List ℕ → Both (MutBor (List ℕ)) (MutBor (List ℕ)) → Lent
 at_entry table clock answer = lent table.entry.now clock answer.entry.now []
 
 -- And as it leaves them, with the clock that it gives back.
-abbrev pub at_exit : Both (Bor (List ℕ)) (Bor (List ℕ)) → List ℕ → Both (Bor (List ℕ)) (Bor (List ℕ)) → Lent
+abbrev pub at_exit : Both (MutBor (List ℕ)) (MutBor (List ℕ)) → List ℕ → Both (MutBor (List ℕ)) (MutBor (List ℕ)) → Lent
 at_exit table clock answer = lent table.exit.now clock answer.exit.now []
 
 -- ---- as the code reads

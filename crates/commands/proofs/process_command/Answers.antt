@@ -40,7 +40,7 @@ returns-in_default c =
     let p = (proposal_of c.args.negative c.args.reply_type c.args.reply.now c.args.updates.now) in
     let w = there (goal.at.returns-in_default c).Else-not-well_formed in
     process_read l l p c.args.asdu.now _ _ w (is_read (goal.at.returns-in_default c).After-parse-reading)
-    (gives _ _ _ _ _ (c.nothing-in_default.ensures ∙ ap nothing c.outcome.ensures) (process_unread l p w _ c.in_default.in_default-own.keys2))
+    (gives _ _ _ _ _ (c.nothing-in_default.ensures ∙ ap nothing c.outcome.ensures) (process_unread l p w _ c.in_default.not-Parsed))
 
 pub handle_process_command-requires : goal.handle_process_command-requires
 handle_process_command-requires c =

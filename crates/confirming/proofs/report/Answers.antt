@@ -12,6 +12,7 @@ use Rattle.asdu.proofs.Lengths.{length_confirmation}
 use Rattle.asdu.specs.Header.{wire}
 use Rattle.asdu.specs.Command.{first_element}
 use Rattle.report.specs.declared.Reach.{Reach}
+use Rattle.report.specs.declared.Selection.{Selection}
 use Rattle.report.specs.Packing.{selected}
 use Rattle.report.specs.Selection.{selects}
 use Rattle.report.specs.Report.{report}
@@ -22,11 +23,15 @@ use Rattle.confirming.proofs.Laws.{data_is, no_room, has_room, all_written}
 use borrow.Author.Rules.{rules}
 use native.Mathlib.Omega.{arith}
 use Rattle.confirming.proofs.report.Goals as goal
-use Rattle.confirming.proofs.report.Goals.{After-put_data, In-Octets-2}
+use Rattle.confirming.proofs.report.Goals.{After-put_data, In-Octets}
+
+-- what stands between confirmation and termination
+abbrev data_in : (t types : List ℕ) (cause ca : ℕ) → Selection → List ℕ
+data_in t types cause ca s = wire (report (limit_of (table_of t)) types cause ca (selected (selects s) (points_for ca (table_of t).stations)))
 
 -- the data that are written are those
-same_data : (c : After-put_data) → (c.put_data.result ≡ wrote (length c.args.answer.now) (first_element + c.args.command.element) (first_element + c.args.command.element) (wire (report (limit_of (table_of c.args.table.now)) c.args.types.now c.args.cause c.args.command.ca (selected (selects c.args.selection) (points_for c.args.command.ca (table_of c.args.table.now).stations)))))
-    × (c.put_data.new.out ≡ written c.args.answer.now (first_element + c.args.command.element) (first_element + c.args.command.element) (wire (report (limit_of (table_of c.args.table.now)) c.args.types.now c.args.cause c.args.command.ca (selected (selects c.args.selection) (points_for c.args.command.ca (table_of c.args.table.now).stations)))))
+same_data : (c : After-put_data) → (c.put_data.result ≡ wrote (length c.args.answer.now) (first_element + c.args.command.element) (first_element + c.args.command.element) (data_in c.args.table.now c.args.types.now c.args.cause c.args.command.ca c.args.selection))
+    × (c.put_data.new.out ≡ written c.args.answer.now (first_element + c.args.command.element) (first_element + c.args.command.element) (data_in c.args.table.now c.args.types.now c.args.cause c.args.command.ca c.args.selection))
 same_data c =
     let a = c.args in
     let t = a.table.now in
@@ -42,11 +47,13 @@ same_data c =
     (e.0 ∙ ap (wrote (length out) (first_element + c.args.command.element) (first_element + c.args.command.element)) d, e.1 ∙ ap (written out (first_element + c.args.command.element) (first_element + c.args.command.element)) d)
 
 -- the whole fits
-room : (c : In-Octets-2) → (first_element + c.args.command.element) + (c.in-Octets.octets + (first_element + c.args.command.element)) ≤ length c.args.answer.now
-room c =
+room : (c : In-Octets)
+    → c.put_data.result ≡ wrote (length c.args.answer.now) (first_element + c.args.command.element) (first_element + c.args.command.element) (data_in c.args.table.now c.args.types.now c.args.cause c.args.command.ca c.args.selection)
+    → (first_element + c.args.command.element) + (c.in-Octets.octets + (first_element + c.args.command.element)) ≤ length c.args.answer.now
+room c d =
     let a = c.args in
     has_room (table_of a.table.now) a.command a.asdu.now a.types.now a.cause a.selection a.answer.now c.requires.3.1 _
-    (sym (same_data c.before.before.before.before).0 ∙ c.in-Octets.is)
+    (sym d ∙ c.in-Octets.is)
 
 pub reach_of-reach-requires : goal.reach_of-reach-requires
 reach_of-reach-requires c =
@@ -76,31 +83,28 @@ returns-in_default c =
 
 pub put_confirmation-requires : goal.put_confirmation-requires
 put_confirmation-requires c =
-    let fits = room (goal.at.put_confirmation-requires c).In-Octets-2 in
+    let fits = room (goal.at.put_confirmation-requires c).In-Octets (same_data (goal.at.put_confirmation-requires c).After-put_data).0 in
     let l = length_confirmation c.args.command c.args.asdu.now 7 false c.requires.3.1 in
-    let kept = c.put_data.auto.0 in
     (omega arith, c.requires.3.1, omega arith)
 
 pub overflow_add-before-3 : goal.overflow_add-before-3
 overflow_add-before-3 c =
-    let fits = room (goal.at.overflow_add-before-3 c).In-Octets-2 in
+    let fits = room (goal.at.overflow_add-before-3 c).In-Octets (same_data (goal.at.overflow_add-before-3 c).After-put_data).0 in
     omega arith
 
 pub put_termination-requires : goal.put_termination-requires
 put_termination-requires c =
-    let fits = room (goal.at.put_termination-requires c).In-Octets-2 in
-    let kept = c.put_data.auto.0 in
-    let again = c.put_confirmation.auto.0 in
+    let fits = room (goal.at.put_termination-requires c).In-Octets (same_data (goal.at.put_termination-requires c).After-put_data).0 in
     (c.requires.3, omega arith)
 
 pub overflow_add-octets : goal.overflow_add-octets
 overflow_add-octets c =
-    let fits = room (goal.at.overflow_add-octets c).In-Octets-2 in
+    let fits = room (goal.at.overflow_add-octets c).In-Octets (same_data (goal.at.overflow_add-octets c).After-put_data).0 in
     omega arith
 
 pub overflow_add-before-4 : goal.overflow_add-before-4
 overflow_add-before-4 c =
-    let fits = room (goal.at.overflow_add-before-4 c).In-Octets-2 in
+    let fits = room (goal.at.overflow_add-before-4 c).In-Octets (same_data (goal.at.overflow_add-before-4 c).After-put_data).0 in
     omega arith
 
 pub returns : goal.returns

@@ -39,7 +39,7 @@ answer_to-answered-requires c =
 pub returns-then-not-is_done : goal.returns-then-not-is_done
 returns-then-not-is_done c =
     let d : is_done c.answer_to-answered.result.outcome ≡ false = sym c.is_done.ensures ∙ c.if-not-is_done.true in
-    (answer_sent (goal.at.returns-then-not-is_done c).After-answer_to-answered, sym (simp d))
+    record { sends = answer_sent (goal.at.returns-then-not-is_done c).After-answer_to-answered; table_after = sym (simp d) }
 
 pub returns : goal.returns
 unfolding after_counters
@@ -50,4 +50,4 @@ returns c =
     let choice = c.chosen-choice.ensures ∙ ap chosen q in
     let d : is_done c.answer_to-answered.result.outcome ≡ true = sym c.is_done.ensures ∙ c.if-not-is_done.false in
     let e = c.apply_counter_freeze_qualifier.ensures ∙ (λ j. holding t (table_of t) (pick (resets (q j)) (reset_by (table_of t) a.command.ca (choice j)) (table_of t))) in
-    (answer_sent (goal.at.returns c).After-answer_to-answered, e ∙ sym (simp d))
+    record { sends = answer_sent (goal.at.returns c).After-answer_to-answered; table_after = e ∙ sym (simp d) }

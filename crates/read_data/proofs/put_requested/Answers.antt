@@ -20,7 +20,7 @@ put_found-o-requires c =
     let l = c.loop-left in
     let i = c.three_at-ioa.ensures.0 in
     let f =
-    next_fits a.m.now a.first a.h a.command.ca a.asdu.now a.out.now _ l.out a.from l.o l.at l.left l.invariant.0 c.requires.1 (omega arith) in
+    next_fits a.m.now a.first a.h a.command.ca a.asdu.now a.out.now _ l.out a.from l.o l.at l.left l.invariant.0 c.requires.fits (omega arith) in
     (omega arith, rw i f)
 
 pub loop-left-preserved : goal.loop-left-preserved
@@ -28,7 +28,7 @@ loop-left-preserved c =
     let a = c.args in
     let l = c.loop-left in
     let i = c.three_at-ioa.ensures.0 in (
-      next_in a.m.now a.first a.h a.command.ca a.asdu.now a.out.now _ l.out a.from l.o l.at l.left l.invariant.0 c.requires.1 (omega arith)
+      next_in a.m.now a.first a.h a.command.ca a.asdu.now a.out.now _ l.out a.from l.o l.at l.left l.invariant.0 c.requires.fits (omega arith)
           _ _ _ i c.put_found-o.ensures,
       omega arith,
     )
@@ -40,4 +40,4 @@ pub returns : goal.returns
 returns c =
     let a = c.args in
     let l = c.loop-left in
-    all_in a.m.now a.first a.h a.command.ca a.asdu.now a.out.now _ l.out a.from l.o l.at l.left l.invariant.0 c.requires.1 (omega arith)
+    all_in a.m.now a.first a.h a.command.ca a.asdu.now a.out.now _ l.out a.from l.o l.at l.left l.invariant.0 c.requires.fits (omega arith)

@@ -13,27 +13,27 @@ use Rattle.system_command_handler.proofs.Laws.{read_denied, read_short, read_wri
 use borrow.Author.Rules.{rules}
 use native.Mathlib.Omega.{arith}
 use Rattle.system_command_handler.proofs.handle_read.Goals as goal
-use Rattle.system_command_handler.proofs.handle_read.Goals.{In-Here-2, In-Known-2, Start}
+use Rattle.system_command_handler.proofs.handle_read.Goals.{In-Here, In-Known, Start}
 
 -- the objects are whole
 whole_in : (s : Start) → length s.args.asdu.now ≡ object_at s.args.command.element s.args.command.count
 whole_in s = s.requires.4 ∙ ap (λ (e : ℕ). object_at e s.args.command.count) (sym s.requires.3)
 
 -- the seat that was found, in a table of octets
-octets_in : (c : In-Here-2) → Octets c.args.table.now
+octets_in : (c : In-Here) → Octets c.args.table.now
 octets_in c = λ k. omega (arith, c.shared_slice_known-1.given k)
 
-seat_in : (c : In-Here-2) →
+seat_in : (c : In-Here) →
     seat_at c.args.table.now c.args.command.ca ≡ Here c.in-Here.field-0 c.in-Here.first c.in-Here.h
 seat_in c = sym c.seat_at.ensures ∙ c.in-Here.is
 
-bounds_in : (c : In-Here-2) →
+bounds_in : (c : In-Here) →
     c.in-Here.first + 48 * c.in-Here.h ≤ length c.args.table.now
 bounds_in c =
     read_bounds c.args.table.now _ _ _ (octets_in c) c.requires.0 c.args.command (seat_in c)
 
 -- every address is known
-all_known : (c : In-Known-2) →
+all_known : (c : In-Known) →
     Requested c.args.table.now c.in-Here.first c.in-Here.h c.args.command c.args.asdu.now c.in-Known.octets
 all_known c =
     requested_law c.args.table.now _ _ _ (octets_in c.before.before.before.before) c.requires.0 c.args.command (seat_in c.before.before.before.before) c.args.asdu.now _ (sym c.in-Known.is ∙ c.read_octets.ensures)
@@ -55,7 +55,7 @@ returns-in_default c =
 
 pub read_octets-requires : goal.read_octets-requires
 read_octets-requires c =
-    (bounds_in (goal.at.read_octets-requires c).In-Here-2, omega (arith, c.requires.4), c.requires.2)
+    (bounds_in (goal.at.read_octets-requires c).In-Here, omega (arith, c.requires.4), c.requires.2)
 
 pub echo-requires-in_default-read_octets : goal.echo-requires-in_default-read_octets
 echo-requires-in_default-read_octets c =
@@ -65,7 +65,7 @@ pub returns-in_default-read_octets : goal.returns-in_default-read_octets
 returns-in_default-read_octets c =
     let a = c.args in
     let missing =
-    missing_address_law a.table.now _ _ _ (octets_in (goal.at.returns-in_default-read_octets c).In-Here-2) c.requires.0 a.command (seat_in (goal.at.returns-in_default-read_octets c).In-Here-2) a.asdu.now
+    missing_address_law a.table.now _ _ _ (octets_in (goal.at.returns-in_default-read_octets c).In-Here) c.requires.0 a.command (seat_in (goal.at.returns-in_default-read_octets c).In-Here) a.asdu.now
     (sym c.in_default-read_octets.is ∙ c.read_octets.ensures) in
     read_denied a.command a.asdu.now a.answer.now _ missing _ _ c.echo-in_default-read_octets.ensures
 
@@ -73,13 +73,13 @@ pub returns-then-answer-before : goal.returns-then-answer-before
 returns-then-answer-before c =
     let a = c.args in
     rw c.nothing.ensures
-    (read_short a.table.now _ _ a.command a.asdu.now a.answer.now _ (all_known (goal.at.returns-then-answer-before c).In-Known-2) (whole_in (goal.at.returns-then-answer-before c).Start) (omega arith))
+    (read_short a.table.now _ _ a.command a.asdu.now a.answer.now _ (all_known (goal.at.returns-then-answer-before c).In-Known) (whole_in (goal.at.returns-then-answer-before c).Start) (omega arith))
 
 pub returns-then-answer-before-2 : goal.returns-then-answer-before-2
 returns-then-answer-before-2 c =
     let a = c.args in
     rw c.nothing-then-answer-before-2.ensures
-    (read_short a.table.now _ _ a.command a.asdu.now a.answer.now _ (all_known (goal.at.returns-then-answer-before-2 c).In-Known-2) (whole_in (goal.at.returns-then-answer-before-2 c).Start) (omega arith))
+    (read_short a.table.now _ _ a.command a.asdu.now a.answer.now _ (all_known (goal.at.returns-then-answer-before-2 c).In-Known) (whole_in (goal.at.returns-then-answer-before-2 c).Start) (omega arith))
 
 pub put_echo-requires : goal.put_echo-requires
 put_echo-requires c =
@@ -87,15 +87,15 @@ put_echo-requires c =
 
 pub put_requested-requires : goal.put_requested-requires
 put_requested-requires c =
-    let z = all_known (goal.at.put_requested-requires c).In-Known-2 in
+    let z = all_known (goal.at.put_requested-requires c).In-Known in
     let n = z.is_octets in
     let l = ap size z.is_data in
     let kept = c.put_echo.auto.0 in
-    ((bounds_in (goal.at.put_requested-requires c).In-Here-2, omega (arith, c.requires.4)), omega arith)
+    ((bounds_in (goal.at.put_requested-requires c).In-Here, omega (arith, c.requires.4)), omega arith)
 
 pub returns : goal.returns
 returns c =
     let a = c.args in
     rw c.given.ensures
-    (read_written a.table.now _ _ a.command a.asdu.now a.answer.now _ (all_known (goal.at.returns c).In-Known-2) (whole_in (goal.at.returns c).Start) (omega arith) _ _ _
+    (read_written a.table.now _ _ a.command a.asdu.now a.answer.now _ (all_known (goal.at.returns c).In-Known) (whole_in (goal.at.returns c).Start) (omega arith) _ _ _
     c.put_echo.ensures.1 c.put_requested.ensures)

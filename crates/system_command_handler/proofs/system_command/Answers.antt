@@ -38,7 +38,7 @@ pub returns-in_default : goal.returns-in_default
 returns-in_default c =
     let a = c.args in
     let t = table_of a.table.now in
-    let z = unread_says a.clock a.asdu.now t _ c.in_default.in_default-own.keys2 (is_read (goal.at.returns-in_default c).After-parse-reading) in
+    let z = unread_says a.clock a.asdu.now t _ c.in_default.not-Parsed (is_read (goal.at.returns-in_default c).After-parse-reading) in
     rw (c.with_clock-in_default.ensures, c.nothing-in_default.ensures, c.outcome.ensures) (ends_refused (system_said c.args.clock c.args.asdu.now) (lent c.args.table.now c.args.clock c.args.answer.now []) (there (goal.at.returns-in_default c).Else-not-well_formed) _ z.0 z.1)
 
 pub handle_ingress_asdu-requires : goal.handle_ingress_asdu-requires
