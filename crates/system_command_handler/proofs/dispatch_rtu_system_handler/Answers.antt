@@ -16,15 +16,11 @@ use Rattle.system_command_handler.proofs.Ways.{Sizes, sizes_of, element_is, one_
 use borrow.Author.Rules.{rules}
 use native.Mathlib.Omega.{arith}
 use Rattle.system_command_handler.proofs.dispatch_rtu_system_handler.Goals as goal
-use Rattle.system_command_handler.proofs.dispatch_rtu_system_handler.Goals.{Start}
-
-sizesIn : (s : Start) → Sizes s.args.asdu.now s.args.command
-sizesIn s = sizes_of (limit_of (table_of s.args.table.now)) s.args.asdu.now s.args.command s.requires.1
 
 pub handle_interrogation-answered-requires : goal.handle_interrogation-answered-requires
 handle_interrogation-answered-requires c =
     let there = c.requires.2 in
-    let y = element_is 100 1 one_octet.0 c.args.command c.args.asdu.now (sizesIn (goal.at.handle_interrogation-answered-requires c).Start) c.if-kind-eq-C_IC_NA_1.true in
+    let y = element_is 100 1 one_octet.0 c.args.command c.args.asdu.now (sizes_of (limit_of (table_of c.args.table.now)) c.args.asdu.now c.args.command c.requires.1) c.if-kind-eq-C_IC_NA_1.true in
     let e = y.0 in
     let l = y.1 in
     (c.requires.0, ((omega arith, omega arith), omega arith))
@@ -39,7 +35,7 @@ returns-then-kind-eq-C_IC_NA_1 c =
 pub handle_counter_interrogation-answered-requires : goal.handle_counter_interrogation-answered-requires
 handle_counter_interrogation-answered-requires c =
     let there = c.requires.2 in
-    let y = element_is 101 1 one_octet.1 c.args.command c.args.asdu.now (sizesIn (goal.at.handle_counter_interrogation-answered-requires c).Start) c.if-kind-eq-C_CI_NA_1.true in
+    let y = element_is 101 1 one_octet.1 c.args.command c.args.asdu.now (sizes_of (limit_of (table_of c.args.table.now)) c.args.asdu.now c.args.command c.requires.1) c.if-kind-eq-C_CI_NA_1.true in
     let e = y.0 in
     let l = y.1 in
     (c.requires.0, ((omega arith, omega arith), omega arith))
@@ -52,13 +48,13 @@ returns-then-kind-eq-C_CI_NA_1 c =
     let b = is_done c.handle_counter_interrogation-answered.result.outcome in
     let t = a.table.now in
     rw c.with_clock-then-kind-eq-C_CI_NA_1.ensures
-    (ends_sent (command_said c.args.clock c.args.asdu.now c.args.command) (lent c.args.table.now c.args.clock c.args.answer.now []) c.requires.0 _ (ap (λ (s : Said). s.outcome) S) (ap (λ (s : Said). s.told) S) (ap (λ (s : Said). s.answer) S) _ _ _ _ e.0
-    (e.1 ∙ ap (λ (u : Table). pick b (holding t (table_of t) u) t) (sym (ap (λ (s : Said). s.after) S)))
+    (ends_sent (command_said c.args.clock c.args.asdu.now c.args.command) (lent c.args.table.now c.args.clock c.args.answer.now []) c.requires.0 _ (ap (λ (s : Said). s.outcome) S) (ap (λ (s : Said). s.told) S) (ap (λ (s : Said). s.answer) S) _ _ _ _ e.sends
+    (e.table_after ∙ ap (λ (u : Table). pick b (holding t (table_of t) u) t) (sym (ap (λ (s : Said). s.after) S)))
     (same_clock b a.clock ∙ ap (λ (k : List ℕ). pick b k a.clock) (sym (ap (λ (s : Said). s.clock) S))))
 
 pub handle_read-requires : goal.handle_read-requires
 handle_read-requires c =
-    let z = sizesIn (goal.at.handle_read-requires c).Start in
+    let z = sizes_of (limit_of (table_of c.args.table.now)) c.args.asdu.now c.args.command c.requires.1 in
     let y = element_is 102 0 one_octet.2 c.args.command c.args.asdu.now z c.if-kind-eq-C_RD_NA_1.true in
     (c.requires.0, c.requires.2, omega (arith, z.few), y.0, y.1)
 
@@ -72,8 +68,8 @@ returns-then-kind-eq-C_RD_NA_1 c =
 pub handle_clock_sync-requires : goal.handle_clock_sync-requires
 handle_clock_sync-requires c =
     let there = c.requires.2 in
-    let y = element_is 103 7 one_octet.3 c.args.command c.args.asdu.now (sizesIn (goal.at.handle_clock_sync-requires c).Start) c.if-kind-eq-C_CS_NA_1.true in
-    ((sizesIn (goal.at.handle_clock_sync-requires c).Start).octets, omega (arith, y.1))
+    let y = element_is 103 7 one_octet.3 c.args.command c.args.asdu.now (sizes_of (limit_of (table_of c.args.table.now)) c.args.asdu.now c.args.command c.requires.1) c.if-kind-eq-C_CS_NA_1.true in
+    ((sizes_of (limit_of (table_of c.args.table.now)) c.args.asdu.now c.args.command c.requires.1).octets, omega (arith, y.1))
 
 pub returns-then-kind-eq-C_CS_NA_1 : goal.returns-then-kind-eq-C_CS_NA_1
 returns-then-kind-eq-C_CS_NA_1 c =
@@ -81,11 +77,11 @@ returns-then-kind-eq-C_CS_NA_1 c =
     let o : Octets a.table.now = λ i. omega (arith, c.slice_known-1.given i) in
     let S = said_clock a.clock a.asdu.now a.command (table_of a.table.now) c.if-kind-eq-C_IC_NA_1.false c.if-kind-eq-C_CI_NA_1.false c.if-kind-eq-C_RD_NA_1.false c.if-kind-eq-C_CS_NA_1.true in
     let e = c.handle_clock_sync.ensures in
-    ends_says (command_said c.args.clock c.args.asdu.now c.args.command) (lent c.args.table.now c.args.clock c.args.answer.now []) c.requires.0 o _ _ S _ _ _ e.0 e.1
+    ends_says (command_said c.args.clock c.args.asdu.now c.args.command) (lent c.args.table.now c.args.clock c.args.answer.now []) c.requires.0 o _ _ S _ _ _ e.sends e.clock_value
 
 pub echo-requires : goal.echo-requires
 echo-requires c =
-    (sizesIn (goal.at.echo-requires c).Start).octets
+    (sizes_of (limit_of (table_of c.args.table.now)) c.args.asdu.now c.args.command c.requires.1).octets
 
 pub returns : goal.returns
 returns c =

@@ -36,7 +36,7 @@ bounds_in c =
 all_known : (c : In-Known) →
     Requested c.args.table.now c.in-Here.first c.in-Here.h c.args.command c.args.asdu.now c.in-Known.octets
 all_known c =
-    requested_law c.args.table.now _ _ _ (octets_in c.before.before.before.before) c.requires.0 c.args.command (seat_in c.before.before.before.before) c.args.asdu.now _ (sym c.in-Known.is ∙ c.read_octets.ensures)
+    requested_law c.args.table.now _ _ _ (λ k. omega (arith, c.shared_slice_known-1.given k)) c.requires.0 c.args.command (sym c.seat_at.ensures ∙ c.in-Here.is) c.args.asdu.now _ (sym c.in-Known.is ∙ c.read_octets.ensures)
 
 pub seat_at-requires : goal.seat_at-requires
 seat_at-requires c =
@@ -90,8 +90,7 @@ put_requested-requires c =
     let z = all_known (goal.at.put_requested-requires c).In-Known in
     let n = z.is_octets in
     let l = ap size z.is_data in
-    let kept = c.put_echo.auto.0 in
-    ((bounds_in (goal.at.put_requested-requires c).In-Here, omega (arith, c.requires.4)), omega arith)
+    record { inside = (bounds_in (goal.at.put_requested-requires c).In-Here, omega (arith, c.requires.4)); fits = omega arith }
 
 pub returns : goal.returns
 returns c =
