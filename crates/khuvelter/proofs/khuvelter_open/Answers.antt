@@ -7,5 +7,5 @@ use Rattle.khuvelter.proofs.khuvelter_open.Goals as goal
 
 pub returns : goal.returns
 returns c =
-    let e = (goal.at.returns c).After-open.«open».ensures in
+    let e = c.«open».ensures in
     record { answered = c.plain_reply.ensures ∙ ap plain_reply e.0; left = ap table_alone e.1 }
