@@ -1,4 +1,2 @@
-pub mod Again
-pub mod Locals
 pub mod Turns
 pub mod Found

@@ -1,5 +1,3 @@
-pub mod Again
-pub mod Locals
 pub mod Turns
 pub mod Alone
 pub mod Steps

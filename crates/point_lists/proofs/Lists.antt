@@ -170,7 +170,7 @@ module _ (all : List Request) (m : List ℕ) where
   fold_memory : (s : Later) (ps : List Request) → (folded all m s ps).memory ≡ m
   unfolding folded stepped
   fold_memory s [] = refl
-  fold_memory s (p ∷ ps) = by_test s.done (fold_memory _ ps)
+  fold_memory s (p ∷ ps) = by_test s.done (fold_memory (stepped all m s p).state ps)
     where
       by_test : (b : Bool) → (folded all m (stepped all m s p).state ps).memory ≡ m → (pick b (record { memory = m; state = s }) (folded all m (stepped all m s p).state ps)).memory ≡ m
       by_test true ih = refl
