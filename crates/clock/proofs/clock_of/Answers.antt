@@ -18,5 +18,5 @@ clock_with time known = record { octets = time; known = known }
 pub returns : goal.returns
 unfolding gets
 returns c =
-    let flat = c.args.t1 in
+    let flat = c.args.flat in
     (ap (λ (l : List ℕ). clock_with l (not (eqb (get_or flat 7 0) 0))) (gets_drop 0 7 flat (omega arith)), omega arith)

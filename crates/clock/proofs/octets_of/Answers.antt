@@ -12,5 +12,5 @@ use Rattle.clock.proofs.octets_of.Goals as goal
 pub returns : goal.returns
 unfolding gets
 returns c =
-    let time = c.args.t1 in
+    let time = c.args.time in
     (rw c.flag_of.ensures (ap (λ (l : List ℕ). with_flag l c.args.known) (gets_drop 0 7 time (omega arith) ∙ take_all 7 time (omega arith))), refl)
