@@ -1,5 +1,5 @@
 -- The limits of a place by its type, as the code compares numbers of several octets at once: nobody need believe them, `places_ok` is told in `places_ok`.
-use Rattle.std.specs.Prelude.{ℕ, ◌+◌, ◌-◌, min, List, ◌++◌, leb}
+use Rattle.std.specs.Prelude.{ℕ, ◌-◌, min, List, ◌++◌, leb}
 use Rattle.limits.specs.Test.{pick}
 use Rattle.limits.specs.Size.{point_octets, values_from}
 use Rattle.octets.specs.Number.{power}

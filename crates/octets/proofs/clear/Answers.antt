@@ -1,7 +1,7 @@
-use mathlib.Core.Path.{◌≡◌, refl, ◌∙◌}
-use Prim.Native.Nat.{◌-◌, ◌≤◌}
-use lib.ListN.{length, replicate, length-set}
-use lib.Seq.{paste, paste-zero}
+use mathlib.Core.Path.{refl, ◌∙◌}
+use Prim.Native.Nat.{◌-◌}
+use lib.ListN.{replicate, length-set}
+use lib.Seq.{paste-zero}
 use Rattle.octets.proofs.Laws.{clear_step, clear_done}
 use borrow.Author.Rules.{rules}
 use native.Mathlib.Omega.{arith}

@@ -1,11 +1,8 @@
 -- A turn lays one zero more over the memory: a copy of zeros, octet by octet.
-use mathlib.Core.Path.{◌≡◌, refl, ◌∙◌}
+use mathlib.Core.Path.{◌≡◌}
 use Prim.Native.Nat.{◌-◌, ◌≤◌}
-use lib.ListN.{length, replicate, length-set}
-use lib.Seq.{paste, paste-zero}
-use Rattle.octets.proofs.Laws.{clear_step, clear_done}
-use borrow.Author.Rules.{rules}
-use native.Mathlib.Omega.{arith}
+use lib.ListN.{length, replicate}
+use lib.Seq.{paste}
 use Rattle.octets.proofs.clear.Given as goal
 
 abbrev pub invariant-loop-j : goal.invariant-loop-j

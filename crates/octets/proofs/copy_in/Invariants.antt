@@ -1,11 +1,8 @@
 -- A turn lays one octet more of `src` over `dst`.
-use borrow.Author.Rules.{rules}
-use native.Mathlib.Omega.{arith}
-use mathlib.Core.Path.{◌≡◌, refl, ◌∙◌}
+use mathlib.Core.Path.{◌≡◌}
 use Prim.Native.Nat.{◌-◌, ◌≤◌}
-use lib.ListN.{length, length-set}
-use lib.Seq.{paste, paste-zero}
-use Rattle.octets.proofs.Laws.{copy_step, copy_done}
+use lib.ListN.{length}
+use lib.Seq.{paste}
 use Rattle.octets.proofs.copy_in.Given as goal
 
 abbrev pub invariant-loop-j : goal.invariant-loop-j

@@ -1,7 +1,7 @@
-use mathlib.Core.Path.{◌≡◌, refl, ◌∙◌}
-use Prim.Native.Nat.{◌+◌, ◌-◌, ◌≤◌}
-use lib.ListN.{length, drop, length-set}
-use lib.Seq.{paste, paste-zero}
+use mathlib.Core.Path.{refl, ◌∙◌}
+use Prim.Native.Nat.{◌+◌}
+use lib.ListN.{drop, length-set}
+use lib.Seq.{paste-zero}
 use Rattle.octets.proofs.Laws.{down_step, down_done}
 use borrow.Author.Rules.{rules}
 use native.Mathlib.Omega.{arith}

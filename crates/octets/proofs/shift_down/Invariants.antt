@@ -1,11 +1,8 @@
 -- A turn lays one octet more of what lies `by` higher over the memory; what is still to be read is as it was.
-use mathlib.Core.Path.{◌≡◌, refl, ◌∙◌}
+use mathlib.Core.Path.{◌≡◌}
 use Prim.Native.Nat.{◌+◌, ◌-◌, ◌≤◌}
-use lib.ListN.{length, drop, length-set}
-use lib.Seq.{paste, paste-zero}
-use Rattle.octets.proofs.Laws.{down_step, down_done}
-use borrow.Author.Rules.{rules}
-use native.Mathlib.Omega.{arith}
+use lib.ListN.{length, drop}
+use lib.Seq.{paste}
 use Rattle.octets.proofs.shift_down.Given as goal
 
 abbrev pub invariant-loop-j : goal.invariant-loop-j

@@ -1,9 +1,7 @@
 use borrow.Author.Rules.{rules}
 use native.Mathlib.Omega.{arith}
 use mathlib.Core.Path.{◌≡◌, refl}
-use Prim.Native.Nat.{◌≤◌}
-use lib.ListN.{length, length-set}
-use Rattle.octets.specs.Over.{shifted}
+use lib.ListN.{length-set}
 use Rattle.octets.proofs.Laws.{shift_none, shift_again}
 use Rattle.octets.proofs.shift_up.Goals as goal
 

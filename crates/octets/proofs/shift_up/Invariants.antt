@@ -1,11 +1,8 @@
 -- From the end down: a turn moves one octet more, and what lies below is as it was.
-use borrow.Author.Rules.{rules}
-use native.Mathlib.Omega.{arith}
-use mathlib.Core.Path.{◌≡◌, refl}
+use mathlib.Core.Path.{◌≡◌}
 use Prim.Native.Nat.{◌≤◌}
-use lib.ListN.{length, length-set}
+use lib.ListN.{length}
 use Rattle.octets.specs.Over.{shifted}
-use Rattle.octets.proofs.Laws.{shift_none, shift_again}
 use Rattle.octets.proofs.shift_up.Given as goal
 
 abbrev pub invariant-loop-k : goal.invariant-loop-k

@@ -1,5 +1,4 @@
 -- Each field is the one of `command_in`.
-use borrow.Author.Rules.{rules}
 use Rattle.asdu.specs.Header.{kind_in, count_in, cause_in, test_in, originator_in}
 use Rattle.asdu.proofs.command.command_in.Goals as goal
 

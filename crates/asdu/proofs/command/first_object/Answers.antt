@@ -1,5 +1,4 @@
 -- Count 0 has no first object; otherwise the objects reach past octet 9.
-use borrow.Author.Rules.{rules}
 use borrow.Author.Tests.{eq-eqb, ne_eqb}
 use Rattle.asdu.specs.declared.command.FirstObject.TheVariants.{Object}
 use Rattle.asdu.proofs.command.first_object.Goals as goal

@@ -1,5 +1,4 @@
 -- Each entry asks for the class of its own types.
-use borrow.Author.Rules.{rules}
 use mathlib.Core.Path.{sym, ap, ◌∙◌}
 use Rattle.limits.specs.Size.{class_of}
 use Rattle.asdu.specs.declared.command.Entry.{Entry}

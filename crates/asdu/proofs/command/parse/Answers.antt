@@ -1,8 +1,6 @@
 -- Each return computes `read_as` by the tests that led there; a length that passed leaves six octets to read.
-use borrow.Author.Rules.{rules}
 use mathlib.Core.Path.{sym, ap, ◌∙◌}
 use lib.ListN.{length}
-use borrow.Author.Tests.{not-true, not-false}
 use Rattle.asdu.specs.declared.command.Reading.TheVariants.{Parsed}
 use Rattle.asdu.specs.Command.{read_as}
 use Rattle.asdu.proofs.Reading.{header_there}

@@ -1,5 +1,4 @@
 -- The part that is lent is the first object.
-use borrow.Author.Rules.{rules}
 use mathlib.Core.Path.{◌≡◌}
 use Prim.Native.Nat.{◌+◌, ◌-◌}
 use lib.ListN.{length-take, length-drop}

@@ -1,5 +1,4 @@
 -- The part that is lent is all octets after the command's own header.
-use borrow.Author.Rules.{rules}
 use native.Mathlib.Omega.{arith}
 use lib.ListN.{length-drop}
 use Rattle.octets.specs.Number.{Octets}

@@ -1,5 +1,4 @@
 -- The header is the one of `reply_to`.
-use borrow.Author.Rules.{rules}
 use native.Mathlib.Omega.{arith}
 use mathlib.Core.Path.{◌≡◌, ap}
 use Rattle.asdu.specs.declared.header.Header.{Header}

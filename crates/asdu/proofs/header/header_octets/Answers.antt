@@ -1,5 +1,4 @@
 -- The octets are those of `header`, the flags being what `flag` gives.
-use borrow.Author.Rules.{rules}
 use mathlib.Core.List.{◌∷◌}
 use Prim.Native.Nat.{◌+◌}
 use Rattle.octets.specs.Number.{pair}

@@ -1,5 +1,4 @@
 -- The six octets of the header go to the front.
-use borrow.Author.Rules.{rules}
 use mathlib.Core.Path.{sym, ap}
 use lib.ListN.{length}
 use Rattle.asdu.proofs.Laws.{length_header}

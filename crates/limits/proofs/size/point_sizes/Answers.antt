@@ -1,8 +1,7 @@
-use mathlib.Core.Path.{◌≡◌, refl, ap, ◌∙◌}
-use Prim.Native.Nat.{ℕ, ◌-◌, ◌≤◌, ◌<◌}
+use mathlib.Core.Path.{refl, ap, ◌∙◌}
 use borrow.Author.Rules.{rules}
 use native.Mathlib.Omega.{arith}
-use lib.ListN.{length, get_or, length-set}
+use lib.ListN.{get_or, length-set}
 use Rattle.limits.specs.Size.{point_octets, point_sizes}
 use Rattle.limits.proofs.Sizes.{codes_at, one_more, all_values, point_entry}
 use Rattle.limits.proofs.size.point_sizes.Goals as goal

@@ -1,5 +1,4 @@
 -- The 48 octets of the place, copied in.
-use borrow.Author.Rules.{rules}
 use Rattle.model.proofs.place.put_place.Goals as goal
 
 pub returns : goal.returns

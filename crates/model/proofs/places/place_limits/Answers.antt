@@ -1,5 +1,5 @@
 use mathlib.Core.Path.{◌≡◌, ap, ◌∙◌}
-use Prim.Native.Nat.{ℕ, ◌-◌, ◌≤◌}
+use Prim.Native.Nat.{ℕ}
 use mathlib.Core.List.{List}
 use lib.ListN.{set}
 use Rattle.limits.specs.Size.{point_octets, values_from}
@@ -7,7 +7,6 @@ use Rattle.limits.proofs.Sizes.{point_at_most}
 use Rattle.octets.specs.Number.{power}
 use Rattle.model.specs.Limits.{first_of, last_of}
 use Rattle.model.proofs.Limits.{filled, filled_none, filled_turn, filled_all, size_is}
-use borrow.Author.Rules.{rules}
 use native.Mathlib.Omega.{arith}
 use Rattle.model.proofs.places.place_limits.Goals as goal
 

@@ -7,7 +7,6 @@ use Rattle.octets.specs.Number.{Octets}
 use Rattle.model.specs.Limits.{place_limits, first_limit, last_limit, counter_limit}
 use Rattle.model.proofs.Limits.{first_at, last_at, counter_at}
 use Rattle.model.proofs.Within.{Within, refused, accepted}
-use borrow.Author.Rules.{rules}
 use native.Mathlib.Omega.{arith}
 use Rattle.model.proofs.places.place_ok.Goals as goal
 use Rattle.model.proofs.places.place_ok.Goals.{After-wide-kind, Else-limits-kind-3}

@@ -1,13 +1,8 @@
 -- What is left to test says the same as the whole, at every turn.
-use mathlib.Core.Path.{◌≡◌, refl, sym, ◌∙◌}
+use mathlib.Core.Path.{◌≡◌}
 use Prim.Native.Nat.{◌+◌, ◌*◌, ◌≤◌}
 use lib.ListN.{length}
-use borrow.Author.Tests.{not-true, not-false}
-use Rattle.octets.specs.Number.{three}
 use Rattle.model.specs.Place.{places_ok}
-use Rattle.model.proofs.Within.{places_on, places_off, places_end}
-use borrow.Author.Rules.{rules}
-use native.Mathlib.Omega.{arith}
 use Rattle.model.proofs.places.places_ok.Given as goal
 
 abbrev pub invariant-loop-left : goal.invariant-loop-left

@@ -3,7 +3,6 @@ use mathlib.Core.Path.{◌∙◌}
 use lib.Dec.{eqb}
 use lib.Bits.{bit_or}
 use Rattle.model.proofs.Within.{spare_is}
-use borrow.Author.Rules.{rules}
 use Rattle.model.proofs.places.spare_zero.Goals as goal
 
 pub returns : goal.returns

@@ -1,6 +1,5 @@
 -- By the cases of the group.
 use mathlib.Core.Path.{sym, ap, ◌∙◌}
-use borrow.Author.Rules.{rules}
 use Rattle.model.specs.Request.{counter_ok}
 use Rattle.model.proofs.registration.counter_ok.Goals as goal
 

@@ -1,7 +1,6 @@
 -- Zeros written past the element make the octets that are kept.
 use mathlib.Core.Path.{◌∙◌}
 use Rattle.model.proofs.Requests.{element_over}
-use borrow.Author.Rules.{rules}
 use native.Mathlib.Omega.{arith}
 use Rattle.model.proofs.registration.element_of.Goals as goal
 

@@ -7,7 +7,6 @@ use Rattle.limits.specs.Test.{◌&◌, pick}
 use Rattle.limits.specs.declared.outcome.Outcome.TheVariants.{Done, NotCounter}
 use Rattle.limits.specs.Size.{point_octets}
 use Rattle.model.specs.Request.{own_fault, counter_ok}
-use borrow.Author.Rules.{rules}
 use native.Mathlib.Omega.{arith}
 use Rattle.model.proofs.registration.own_fault.Goals as goal
 use Rattle.model.proofs.registration.own_fault.Goals.{Else-not-group_ok-2}

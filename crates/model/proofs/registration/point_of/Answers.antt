@@ -1,6 +1,5 @@
 -- Field by field, from what the callees promise.
 use Rattle.model.specs.Request.{point_of}
-use borrow.Author.Rules.{rules}
 use Rattle.model.proofs.registration.point_of.Goals as goal
 
 pub returns : goal.returns
