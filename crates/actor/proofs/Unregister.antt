@@ -6,7 +6,6 @@ use Prim.Native.Nat.{ℕ}
 use Rattle.limits.specs.declared.outcome.Outcome.TheVariants.{Done, NotRegistered, TableNotWellFormed, StationNotPlanned}
 use Rattle.octets.specs.Number.{Octets}
 use Rattle.layout.specs.Layout.{points_in}
-use Rattle.table.specs.Table.{held, unmet}
 use Rattle.table.specs.Memory.{table_of, well_formed}
 use Rattle.table.specs.Change.{station_of, known}
 use Rattle.table.proofs.Parse.{parse_some, parse_none}

@@ -12,7 +12,7 @@ use borrow.Author.Tests.{eqb-true, eqb-false, eq-eqb, ne_eqb}
 use Rattle.limits.specs.Test.{pick}
 use Rattle.octets.specs.Number.{two}
 use Rattle.model.specs.declared.Point.{Point}
-use Rattle.table.specs.Table.{Station, held, share_of}
+use Rattle.table.specs.Table.{Station, share_of}
 use Rattle.table.specs.Memory.{points_at, stations_at}
 use Rattle.table.specs.Change.{station_of, in_station, with_points}
 use Rattle.table.proofs.Points.{length_points_at}

@@ -7,7 +7,7 @@ use lib.ListN.{length}
 use Rattle.limits.specs.Test.{total}
 use Rattle.limits.specs.Share.{held_of, unmet_of, admission_of, admission_in}
 use Rattle.octets.specs.Number.{two}
-use Rattle.table.specs.Table.{Station, held, share_of}
+use Rattle.table.specs.Table.{Station, share_of}
 use Rattle.layout.specs.Layout.{held_at}
 use Rattle.table.specs.Memory.{points_at, stations_at, table_of, sum_at, unmet_at}
 use Rattle.table.proofs.Points.{length_points_at}

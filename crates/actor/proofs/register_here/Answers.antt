@@ -1,5 +1,4 @@
 -- Each way out is one law of registration. Assumes nothing.
-use borrow.Author.Tests.{not-true, not-false}
 use mathlib.Core.Path.{◌≡◌, sym, ap, ◌∙◌}
 use mathlib.Core.Bool.{true, false}
 use Rattle.limits.specs.Outcome.{is_done}
@@ -14,7 +13,6 @@ use Rattle.lookup.proofs.Laws.{seat_law}
 use Rattle.actor.specs.Actor.{seat_fault, offset_of, room_at}
 use Rattle.insert.specs.Insert.{placed}
 use Rattle.actor.proofs.Register.{register_own, register_room, register_done, register_bounds}
-use borrow.Author.Rules.{rules}
 use native.Mathlib.Omega.{arith}
 use Rattle.actor.proofs.register_here.Goals as goal
 

@@ -1,5 +1,4 @@
 -- No table, no station, or what registration at the seat says. Assumes nothing.
-use borrow.Author.Tests.{not-true, not-false}
 use mathlib.Core.Path.{◌≡◌, sym, ◌∙◌}
 use mathlib.Core.Bool.{true, false}
 use Rattle.octets.specs.Number.{Octets}
@@ -8,7 +7,6 @@ use Rattle.table.proofs.Parse.{passed}
 use Rattle.registry.specs.Registry.{registering}
 use Rattle.replies.proofs.Ways.{no_table}
 use Rattle.actor.proofs.Register.{register_absent}
-use borrow.Author.Rules.{rules}
 use native.Mathlib.Omega.{arith}
 use Rattle.actor.proofs.register_point.Goals as goal
 

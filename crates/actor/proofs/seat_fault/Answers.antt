@@ -1,12 +1,10 @@
 -- The own tests first, then 17. Assumes nothing.
-use borrow.Author.Tests.{not-true, not-false}
 use mathlib.Core.Path.{◌≡◌, sym, ap, ◌∙◌}
 use mathlib.Core.Bool.{true, false}
 use Rattle.limits.specs.Outcome.{is_done}
 use Rattle.model.specs.Request.{own_fault}
 use Rattle.actor.specs.Actor.{spot_fault}
 use Rattle.actor.proofs.Register.{own_refused, own_passed}
-use borrow.Author.Rules.{rules}
 use Rattle.actor.proofs.seat_fault.Goals as goal
 
 pub returns-then-not-is_done : goal.returns-then-not-is_done

@@ -6,7 +6,6 @@ use Rattle.limits.specs.declared.outcome.Outcome.TheVariants.{Done}
 use Rattle.table.specs.Memory.{sum_at, unmet_at}
 use Rattle.wellformed.specs.Station.{share_at}
 use Rattle.actor.specs.Actor.{station_share_at}
-use borrow.Author.Rules.{rules}
 use Rattle.actor.proofs.share_here.Goals as goal
 
 pub returns : goal.returns

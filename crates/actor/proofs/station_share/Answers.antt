@@ -1,5 +1,4 @@
 -- Each way out is one law of shares. Assumes nothing.
-use borrow.Author.Tests.{not-true, not-false}
 use mathlib.Core.Path.{◌≡◌, sym, ◌∙◌}
 use mathlib.Core.Bool.{true, false}
 use Rattle.octets.specs.Number.{Octets}
@@ -7,7 +6,6 @@ use Rattle.table.specs.Memory.{well_formed}
 use Rattle.table.proofs.Parse.{passed}
 use Rattle.lookup.proofs.Laws.{seat_law}
 use Rattle.actor.proofs.Unregister.{share_no_table, share_absent, share_found}
-use borrow.Author.Rules.{rules}
 use native.Mathlib.Omega.{arith}
 use Rattle.actor.proofs.station_share.Goals as goal
 

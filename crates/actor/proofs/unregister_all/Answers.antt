@@ -1,5 +1,4 @@
 -- Each way out is one law of removal. Assumes nothing.
-use borrow.Author.Tests.{not-true, not-false}
 use mathlib.Core.Path.{◌≡◌, sym, ◌∙◌}
 use mathlib.Core.Bool.{true, false}
 use Rattle.limits.specs.declared.outcome.Outcome.TheVariants.{Done}
@@ -9,7 +8,6 @@ use Rattle.registry.specs.Registry.{unregistering_all}
 use Rattle.replies.proofs.Ways.{no_table}
 use Rattle.actor.proofs.Unregister.{all_done}
 use Rattle.remove.proofs.Entry.{take_all_out_law}
-use borrow.Author.Rules.{rules}
 use native.Mathlib.Omega.{arith}
 use Rattle.actor.proofs.unregister_all.Goals as goal
 

@@ -1,5 +1,4 @@
 -- Each way out is one law of removal. Assumes nothing.
-use borrow.Author.Tests.{not-true, not-false}
 use mathlib.Core.Path.{◌≡◌, sym, ◌∙◌}
 use mathlib.Core.Bool.{true, false}
 use Rattle.octets.specs.Number.{Octets}
@@ -10,7 +9,6 @@ use Rattle.registry.specs.Registry.{unregistering}
 use Rattle.replies.proofs.Ways.{no_table}
 use Rattle.actor.proofs.Unregister.{out_absent, out_missing, out_done}
 use Rattle.remove.proofs.Entry.{take_out_law}
-use borrow.Author.Rules.{rules}
 use native.Mathlib.Omega.{arith}
 use Rattle.actor.proofs.unregister_point.Goals as goal
 

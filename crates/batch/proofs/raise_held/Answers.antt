@@ -1,9 +1,8 @@
-use borrow.Author.Rules.{rules}
 use native.Mathlib.Omega.{arith}
 use mathlib.Core.Path.{◌≡◌, refl, sym, ap, ◌∙◌, subst}
 use mathlib.Core.List.{List}
-use Prim.Native.Nat.{ℕ, ◌+◌, ◌*◌, ◌-◌, ◌≤◌}
-use lib.ListN.{length, get_or}
+use Prim.Native.Nat.{ℕ, ◌+◌, ◌*◌, ◌-◌}
+use lib.ListN.{get_or}
 use Rattle.octets.specs.Over.{over}
 use Rattle.octets.specs.Number.{two, pair}
 use Rattle.batch.specs.Raise.{raised, Raisable}

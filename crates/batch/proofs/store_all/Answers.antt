@@ -1,5 +1,4 @@
 -- Places, stations' numbers and number of points written one after another: `storable` has what each step asks and what they leave. Assumes nothing.
-use borrow.Author.Rules.{rules}
 use native.Mathlib.Omega.{arith}
 use mathlib.Core.Path.{◌≡◌, sym, ◌∙◌, subst}
 use mathlib.Core.List.{List}

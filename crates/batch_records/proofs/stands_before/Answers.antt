@@ -1,9 +1,5 @@
-use borrow.Author.Rules.{rules}
 use native.Mathlib.Omega.{arith}
-use lib.ListN.{length}
-use Prim.Native.Nat.{◌*◌, ◌≤◌}
-use mathlib.Core.Path.{◌≡◌, refl, sym, ◌∙◌}
-use Rattle.batch_records.specs.Records.{stands_before}
+use mathlib.Core.Path.{refl, sym, ◌∙◌}
 use Rattle.batch_records.proofs.Laws.{stands_hit, stands_on, stands_end}
 use Rattle.batch_records.proofs.stands_before.Goals as goal
 

@@ -1,11 +1,8 @@
 -- The loop goes from the last record down, as the recursion of `stands_before` does. Assumes nothing.
-use borrow.Author.Rules.{rules}
-use native.Mathlib.Omega.{arith}
 use lib.ListN.{length}
 use Prim.Native.Nat.{◌*◌, ◌≤◌}
-use mathlib.Core.Path.{◌≡◌, refl, sym, ◌∙◌}
+use mathlib.Core.Path.{◌≡◌}
 use Rattle.batch_records.specs.Records.{stands_before}
-use Rattle.batch_records.proofs.Laws.{stands_hit, stands_on, stands_end}
 use Rattle.batch_records.proofs.stands_before.Given as goal
 
 abbrev pub invariant-loop-left : goal.invariant-loop-left

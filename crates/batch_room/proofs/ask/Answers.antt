@@ -1,5 +1,4 @@
 -- The answer and the two numbers, each from the function that makes it. Assumes nothing.
-use borrow.Author.Rules.{rules}
 use mathlib.Core.Path.{ap, ap₂, ◌∙◌}
 use Prim.Native.Nat.{◌-◌}
 use Rattle.registry.specs.Registry.{admission_outcome}

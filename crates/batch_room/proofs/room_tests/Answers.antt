@@ -1,5 +1,4 @@
 -- From the sums of the table's shares on, with nothing taken in, the turns give the table's answer. Assumes nothing.
-use borrow.Author.Rules.{rules}
 use mathlib.Core.Path.{◌≡◌, ap, ◌∙◌}
 use mathlib.Core.List.{List}
 use Prim.Native.Nat.{ℕ, ◌-◌}

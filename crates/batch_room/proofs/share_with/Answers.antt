@@ -1,5 +1,4 @@
 -- The share's numbers are the octets' and what was taken in. Assumes nothing.
-use borrow.Author.Rules.{rules}
 use native.Mathlib.Omega.{arith}
 use mathlib.Core.Path.{ap}
 use Prim.Native.Nat.{◌+◌}

@@ -1,7 +1,5 @@
 -- One turn: the share of the request's station with what it took in before, asked once. Assumes nothing.
-use borrow.Author.Rules.{rules}
 use native.Mathlib.Omega.{arith}
-use borrow.Author.Tests.{not-true, not-false}
 use mathlib.Core.Path.{◌≡◌, sym, ap, ◌∙◌, subst}
 use mathlib.Core.Bool.{true}
 use Prim.Native.Nat.{ℕ, ◌<◌}

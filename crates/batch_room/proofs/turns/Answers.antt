@@ -1,13 +1,8 @@
-use borrow.Author.Rules.{rules}
 use native.Mathlib.Omega.{arith}
-use borrow.Author.Tests.{not-true, not-false}
-use mathlib.Core.Path.{◌≡◌, sym, ap, ◌∙◌}
-use Prim.Native.Nat.{ℕ, ◌*◌, ◌-◌, ◌≤◌}
-use lib.ListN.{length}
-use Rattle.model.specs.Request.{requests_at}
-use Rattle.batch_records.specs.Records.{requests_in}
+use mathlib.Core.Path.{sym, ap, ◌∙◌}
+use Prim.Native.Nat.{ℕ}
 use Rattle.lookup.specs.Seats.{seat_at}
-use Rattle.batch_room.specs.Room.{standing_at, taken_at, room_run, taken_run}
+use Rattle.batch_room.specs.Room.{standing_at, taken_at}
 use Rattle.batch_room.proofs.Laws.{run_start, run_on_lem, run_stop, run_end, taken_start, taken_on, taken_stop, taken_end}
 use Rattle.batch_room.proofs.turns.Goals as goal
 

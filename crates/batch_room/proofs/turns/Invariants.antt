@@ -1,15 +1,10 @@
 -- The loop over the records: what is left is the recursion of `room_run`. Assumes nothing.
-use borrow.Author.Rules.{rules}
-use native.Mathlib.Omega.{arith}
-use borrow.Author.Tests.{not-true, not-false}
-use mathlib.Core.Path.{◌≡◌, sym, ap, ◌∙◌}
-use Prim.Native.Nat.{ℕ, ◌*◌, ◌-◌, ◌≤◌}
+use mathlib.Core.Path.{◌≡◌}
+use Prim.Native.Nat.{◌*◌, ◌-◌, ◌≤◌}
 use lib.ListN.{length}
 use Rattle.model.specs.Request.{requests_at}
 use Rattle.batch_records.specs.Records.{requests_in}
-use Rattle.lookup.specs.Seats.{seat_at}
-use Rattle.batch_room.specs.Room.{standing_at, taken_at, room_run, taken_run}
-use Rattle.batch_room.proofs.Laws.{run_start, run_on_lem, run_stop, run_end, taken_start, taken_on, taken_stop, taken_end}
+use Rattle.batch_room.specs.Room.{room_run, taken_run}
 use Rattle.batch_room.proofs.turns.Given as goal
 
 abbrev pub invariant-loop-i : goal.invariant-loop-i

@@ -1,14 +1,10 @@
 -- One record's tests: the seat says which station it is, and each way out is one case of `batch_fault`. Assumes nothing.
-use borrow.Author.Rules.{rules}
 use native.Mathlib.Omega.{arith}
-use borrow.Author.Tests.{not-true, not-false}
 use mathlib.Core.Path.{◌≡◌, sym, ap, ap₂, ◌∙◌}
 use mathlib.Core.Bool.{true, false}
-use mathlib.Core.List.{List}
 use Prim.Native.Nat.{ℕ, ◌*◌}
 use Rattle.limits.specs.Outcome.{is_done}
 use Rattle.octets.specs.Number.{Octets}
-use Rattle.model.specs.declared.Request.{Request}
 use Rattle.model.specs.Request.{own_fault, request_at}
 use Rattle.table.specs.Memory.{table_of}
 use Rattle.table.specs.Change.{known}

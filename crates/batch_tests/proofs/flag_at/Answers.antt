@@ -1,5 +1,4 @@
 -- The flag of the address that the record's octets say. Assumes nothing.
-use borrow.Author.Rules.{rules}
 use mathlib.Core.Path.{ap₂, ◌∙◌}
 use Rattle.batch_tests.specs.Tests.{address_flag, flag_at}
 use Rattle.batch_tests.proofs.flag_at.Goals as goal

@@ -1,5 +1,4 @@
 -- The flag is the definition's, and below their number. Assumes nothing.
-use borrow.Author.Rules.{rules}
 use native.Mathlib.Omega.{arith}
 use mathlib.Core.Path.{refl}
 use Rattle.batch_tests.specs.Tests.{address_flag}

@@ -1,5 +1,4 @@
 -- What was found says whether the point is there. Assumes nothing.
-use borrow.Author.Rules.{rules}
 use mathlib.Core.Path.{sym, ap, ◌∙◌}
 use Rattle.batch_tests.specs.Tests.{is_held}
 use Rattle.batch_tests.proofs.is_held.Goals as goal

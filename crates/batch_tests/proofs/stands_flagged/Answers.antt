@@ -1,5 +1,4 @@
 -- Where the flag is not set, the caller knows that the address does not stand there. Assumes nothing.
-use borrow.Author.Rules.{rules}
 use mathlib.Core.Path.{sym}
 use Rattle.batch_tests.proofs.stands_flagged.Goals as goal
 

@@ -7,7 +7,6 @@ use Rattle.layout.specs.Layout.{points_offset, held_offset, after_places}
 use Rattle.model.specs.Place.{place_of}
 use Rattle.insert.specs.Insert.{put_in, placed}
 use native.Mathlib.Omega.{arith}
-use borrow.Author.Rules.{rules}
 use Rattle.insert.proofs.insert.Goals as goal
 
 pub station_at-station-requires : goal.station_at-station-requires

@@ -1,5 +1,4 @@
 use Rattle.insert.specs.Insert.{put_in}
-use borrow.Author.Rules.{rules}
 use Rattle.insert.proofs.put_in.Goals as goal
 
 pub returns : goal.returns

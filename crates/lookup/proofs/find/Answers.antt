@@ -1,7 +1,6 @@
 use mathlib.Core.Path.{ap, ◌∙◌}
 use Rattle.lookup.specs.Find.{ioa_at, spot_at, find_at}
 use Rattle.lookup.proofs.Walk.{missing_end, held_at_lem, missing_at}
-use borrow.Author.Rules.{rules}
 use native.Mathlib.Omega.{arith}
 use Rattle.lookup.proofs.find.Goals as goal
 

@@ -1,4 +1,3 @@
-use borrow.Author.Rules.{rules}
 use Rattle.lookup.specs.Seats.{seat_in, seat_at}
 use Prim.Native.Nat.{◌+◌, ◌*◌}
 use mathlib.Core.Path.{◌∙◌}

@@ -1,11 +1,7 @@
-use borrow.Author.Rules.{rules}
-use native.Mathlib.Omega.{arith}
-use Rattle.lookup.proofs.Walk.{seat_hit, seat_on, seat_end}
 use Rattle.lookup.specs.Seats.{seat_in}
-use Rattle.octets.specs.Number.{two}
 use lib.ListN.{length}
 use Prim.Native.Nat.{◌+◌, ◌*◌, ◌-◌, ◌≤◌}
-use mathlib.Core.Path.{◌≡◌, refl, sym, ◌∙◌}
+use mathlib.Core.Path.{◌≡◌}
 use Rattle.lookup.proofs.seat_from.Given as goal
 
 abbrev pub invariant-loop-left : goal.invariant-loop-left

@@ -1,9 +1,7 @@
-use Prim.Native.Nat.{◌-◌, ◌≤◌}
-use mathlib.Core.Path.{◌≡◌, refl, sym, ap, ◌∙◌, subst}
+use mathlib.Core.Path.{refl, sym, ap, ◌∙◌, subst}
 use Rattle.lookup.specs.declared.Bounds.{Bounds}
 use Rattle.lookup.specs.Find.{ioa_at, halve}
 use Rattle.lookup.proofs.Walk.{Nearer, nearer, halve_on, halve_end}
-use borrow.Author.Rules.{rules}
 use native.Mathlib.Omega.{arith}
 use Rattle.lookup.proofs.seek.Goals as goal
 

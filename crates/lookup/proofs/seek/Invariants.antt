@@ -1,10 +1,6 @@
 use Prim.Native.Nat.{◌-◌, ◌≤◌}
-use mathlib.Core.Path.{◌≡◌, refl, sym, ap, ◌∙◌, subst}
-use Rattle.lookup.specs.declared.Bounds.{Bounds}
+use mathlib.Core.Path.{◌≡◌}
 use Rattle.lookup.specs.Find.{ioa_at, halve}
-use Rattle.lookup.proofs.Walk.{Nearer, nearer, halve_on, halve_end}
-use borrow.Author.Rules.{rules}
-use native.Mathlib.Omega.{arith}
 use Rattle.lookup.proofs.seek.Given as goal
 
 abbrev pub invariant-loop-low : goal.invariant-loop-low

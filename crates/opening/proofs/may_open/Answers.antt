@@ -5,11 +5,10 @@ use mathlib.Core.List.{List}
 use Prim.Native.Nat.{ℕ, ◌+◌, ◌*◌, ◌/◌, ◌%◌, ◌≤◌}
 use lib.Dec.{leb}
 use lib.ListN.{length}
-use borrow.Author.Tests.{eq-eqb, ne_eqb, not-true, not-false}
+use borrow.Author.Tests.{eq-eqb, ne_eqb}
 use Rattle.limits.specs.Test.{◌&◌}
 use Rattle.registry.specs.Opening.{planned, valid_plan, opens}
 use Rattle.opening.proofs.Plan.{length_planned, valid_bounds}
-use borrow.Author.Rules.{rules}
 use native.Mathlib.Omega.{arith}
 use Rattle.opening.proofs.may_open.Goals as goal
 use Rattle.opening.proofs.may_open.Goals.{Else-not-plan_ok}

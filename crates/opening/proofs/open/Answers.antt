@@ -2,12 +2,10 @@
 use mathlib.Core.Path.{sym, ◌∙◌}
 use Prim.Native.Nat.{◌/◌}
 use lib.ListN.{length}
-use borrow.Author.Tests.{not-true, not-false}
 use Rattle.table.specs.Table.{image}
 use Rattle.registry.specs.Opening.{fresh}
 use Rattle.opening.proofs.Plan.{length_planned}
 use Rattle.opening.proofs.Fresh.{opens_is, over_front}
-use borrow.Author.Rules.{rules}
 use native.Mathlib.Omega.{arith}
 use Rattle.opening.proofs.open.Goals as goal
 

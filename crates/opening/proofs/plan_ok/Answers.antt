@@ -4,12 +4,11 @@ use mathlib.Core.Bool.{true, false}
 use Prim.Native.Nat.{ℕ, ◌≤◌, ◌<◌}
 use lib.Dec.{leb}
 use lib.ListN.{length}
-use borrow.Author.Tests.{lt-leb, le-leb, not-true, not-false}
+use borrow.Author.Tests.{lt-leb, le-leb}
 use Rattle.limits.specs.Test.{◌&◌}
 use Rattle.table.specs.Table.{plan_ok}
 use Rattle.registry.specs.Opening.{planned, valid_plan}
 use Rattle.opening.proofs.Plan.{length_planned}
-use borrow.Author.Rules.{rules}
 use native.Mathlib.Omega.{arith}
 use Rattle.opening.proofs.plan_ok.Goals as goal
 

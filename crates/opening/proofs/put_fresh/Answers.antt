@@ -7,7 +7,6 @@ use Rattle.table.specs.Table.{entries}
 use Rattle.registry.specs.Opening.{planned}
 use Rattle.opening.proofs.Plan.{length_planned}
 use Rattle.opening.proofs.Fresh.{written}
-use borrow.Author.Rules.{rules}
 use native.Mathlib.Omega.{arith}
 use Rattle.opening.proofs.put_fresh.Goals as goal
 

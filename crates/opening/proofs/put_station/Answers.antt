@@ -2,7 +2,6 @@
 use mathlib.Core.Path.{◌∙◌}
 use Rattle.octets.specs.Over.{over}
 use Rattle.table.specs.Table.{eight}
-use borrow.Author.Rules.{rules}
 use Rattle.opening.proofs.put_station.Goals as goal
 
 pub returns : goal.returns

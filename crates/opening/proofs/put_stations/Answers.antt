@@ -1,12 +1,10 @@
-use mathlib.Core.Path.{◌≡◌, subst}
+use mathlib.Core.Path.{subst}
 use mathlib.Core.List.{List}
-use Prim.Native.Nat.{ℕ, ◌+◌, ◌*◌, ◌≤◌}
-use lib.ListN.{length, drop}
+use Prim.Native.Nat.{ℕ}
 use Rattle.octets.proofs.Log.{Log, log_start, log_end}
 use Rattle.table.specs.Table.{entries}
 use Rattle.registry.specs.Opening.{planned}
 use Rattle.opening.proofs.Plan.{put_on, entries_end}
-use borrow.Author.Rules.{rules}
 use native.Mathlib.Omega.{arith}
 use Rattle.opening.proofs.put_stations.Goals as goal
 

@@ -1,14 +1,10 @@
 -- One station a turn: what is written and what is still to come are together the entries of the whole plan.
-use mathlib.Core.Path.{◌≡◌, subst}
-use mathlib.Core.List.{List}
-use Prim.Native.Nat.{ℕ, ◌+◌, ◌*◌, ◌≤◌}
+use mathlib.Core.Path.{◌≡◌}
+use Prim.Native.Nat.{◌+◌, ◌*◌, ◌≤◌}
 use lib.ListN.{length, drop}
-use Rattle.octets.proofs.Log.{Log, log_start, log_end}
+use Rattle.octets.proofs.Log.{Log}
 use Rattle.table.specs.Table.{entries}
 use Rattle.registry.specs.Opening.{planned}
-use Rattle.opening.proofs.Plan.{put_on, entries_end}
-use borrow.Author.Rules.{rules}
-use native.Mathlib.Omega.{arith}
 use Rattle.opening.proofs.put_stations.Given as goal
 
 abbrev pub invariant-loop-left : goal.invariant-loop-left

@@ -5,9 +5,6 @@ use lib.ListN.{length, drop}
 use Rattle.limits.specs.Test.{total}
 use Rattle.table.specs.Table.{reserved}
 use Rattle.registry.specs.Opening.{planned}
-use Rattle.opening.proofs.Plan.{reserved_on, reserved_end}
-use borrow.Author.Rules.{rules}
-use native.Mathlib.Omega.{arith}
 use Rattle.opening.proofs.reservations.Given as goal
 
 abbrev pub invariant-loop-left : goal.invariant-loop-left

@@ -1,7 +1,6 @@
 -- The numbers read are those of the definition.
 use mathlib.Core.Path.{◌∙◌}
 use Rattle.table.specs.Table.{numbers_ok}
-use borrow.Author.Rules.{rules}
 use Rattle.opening.proofs.station_ok.Goals as goal
 
 pub returns : goal.returns

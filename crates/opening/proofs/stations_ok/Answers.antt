@@ -1,11 +1,6 @@
 use mathlib.Core.Path.{◌≡◌, refl, sym, ◌∙◌}
-use Prim.Native.Nat.{◌+◌, ◌*◌, ◌≤◌}
-use lib.ListN.{length, drop, get_or}
-use borrow.Author.Tests.{not-true, not-false}
-use Rattle.table.specs.Table.{plan_ok}
-use Rattle.registry.specs.Opening.{planned}
+use lib.ListN.{get_or}
 use Rattle.opening.proofs.Plan.{plan_on, plan_off, plan_end}
-use borrow.Author.Rules.{rules}
 use native.Mathlib.Omega.{arith}
 use Rattle.opening.proofs.stations_ok.Goals as goal
 

@@ -1,13 +1,9 @@
 -- One station a turn: the plan from the running place on, above the running lower bound, is what is still to be tested.
-use mathlib.Core.Path.{◌≡◌, refl, sym, ◌∙◌}
+use mathlib.Core.Path.{◌≡◌}
 use Prim.Native.Nat.{◌+◌, ◌*◌, ◌≤◌}
-use lib.ListN.{length, drop, get_or}
-use borrow.Author.Tests.{not-true, not-false}
+use lib.ListN.{length, drop}
 use Rattle.table.specs.Table.{plan_ok}
 use Rattle.registry.specs.Opening.{planned}
-use Rattle.opening.proofs.Plan.{plan_on, plan_off, plan_end}
-use borrow.Author.Rules.{rules}
-use native.Mathlib.Omega.{arith}
 use Rattle.opening.proofs.stations_ok.Given as goal
 
 abbrev pub invariant-loop-left : goal.invariant-loop-left

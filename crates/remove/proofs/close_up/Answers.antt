@@ -4,7 +4,6 @@ use Prim.Native.Nat.{◌-◌}
 use lib.ListN.{replicate}
 use Rattle.octets.specs.Over.{over}
 use Rattle.remove.specs.Remove.{closed_up}
-use borrow.Author.Rules.{rules}
 use native.Mathlib.Omega.{arith}
 use Rattle.remove.proofs.close_up.Goals as goal
 

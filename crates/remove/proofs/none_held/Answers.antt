@@ -1,6 +1,6 @@
-use mathlib.Core.Path.{◌≡◌, refl, sym, ap, ◌∙◌}
+use mathlib.Core.Path.{refl, sym, ap, ◌∙◌}
 use mathlib.Core.List.{List}
-use Prim.Native.Nat.{ℕ, ◌+◌, ◌*◌, ◌-◌, ◌≤◌}
+use Prim.Native.Nat.{ℕ, ◌+◌, ◌-◌}
 use lib.ListN.{length}
 use Rattle.octets.specs.Number.{pair}
 use Rattle.octets.proofs.Laws.{length_over}

@@ -1,14 +1,8 @@
 -- What is left to clear makes the same memory at each turn.
-use mathlib.Core.Path.{◌≡◌, refl, sym, ap, ◌∙◌}
-use mathlib.Core.List.{List}
-use Prim.Native.Nat.{ℕ, ◌+◌, ◌*◌, ◌-◌, ◌≤◌}
+use mathlib.Core.Path.{◌≡◌}
+use Prim.Native.Nat.{◌+◌, ◌*◌, ◌≤◌}
 use lib.ListN.{length}
-use Rattle.octets.specs.Number.{pair}
-use Rattle.octets.proofs.Laws.{length_over}
 use Rattle.remove.specs.Remove.{none_held}
-use Rattle.remove.proofs.Emptied.{none_held_on, none_held_end}
-use borrow.Author.Rules.{rules}
-use native.Mathlib.Omega.{arith}
 use Rattle.remove.proofs.none_held.Given as goal
 
 abbrev pub invariant-loop-left : goal.invariant-loop-left

@@ -6,7 +6,6 @@ use Rattle.octets.specs.Over.{over}
 use Rattle.octets.specs.Number.{pair}
 use Rattle.layout.specs.Layout.{head_size, place_size, points_offset, points_in, after_places}
 use Rattle.remove.specs.Remove.{none_held, all_taken_out}
-use borrow.Author.Rules.{rules}
 use native.Mathlib.Omega.{arith}
 use Rattle.remove.proofs.take_all_out.Goals as goal
 

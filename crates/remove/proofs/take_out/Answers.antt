@@ -6,7 +6,6 @@ use Rattle.octets.specs.Number.{pair}
 use Rattle.layout.specs.Layout.{points_offset, held_offset, after_places}
 use Rattle.remove.specs.Remove.{closed_up, taken_out}
 use native.Mathlib.Omega.{arith}
-use borrow.Author.Rules.{rules}
 use Rattle.remove.proofs.take_out.Goals as goal
 
 pub station_at-station-requires : goal.station_at-station-requires

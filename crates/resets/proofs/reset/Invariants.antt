@@ -1,12 +1,8 @@
 -- What is left to reset makes the same memory at each turn.
-use borrow.Author.Rules.{rules}
-use native.Mathlib.Omega.{arith}
-use mathlib.Core.Path.{◌≡◌, refl, sym, ap, ◌∙◌}
-use mathlib.Core.List.{List}
-use Prim.Native.Nat.{ℕ, ◌+◌, ◌*◌, ◌-◌, ◌≤◌}
+use mathlib.Core.Path.{◌≡◌}
+use Prim.Native.Nat.{◌+◌, ◌*◌, ◌≤◌}
 use lib.ListN.{length}
 use Rattle.resets.specs.Resets.{reset_places}
-use Rattle.resets.proofs.Turns.{length_place, reset_on, reset_end}
 use Rattle.resets.proofs.reset.Given as goal
 
 abbrev pub invariant-loop-left : goal.invariant-loop-left

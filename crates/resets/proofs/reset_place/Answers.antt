@@ -1,5 +1,4 @@
 -- Four zeros over the reading of a counter that is taken; all else is left.
-use borrow.Author.Rules.{rules}
 use mathlib.Core.Path.{sym, ◌∙◌}
 use Rattle.resets.proofs.Turns.{place_reset, place_kept}
 use Rattle.resets.proofs.reset_place.Goals as goal

@@ -1,6 +1,4 @@
 -- The type first, then the selection.
-use borrow.Author.Rules.{rules}
-use borrow.Author.Tests.{not-true, not-false}
 use mathlib.Core.Path.{sym, ◌∙◌}
 use Rattle.resets.proofs.Turns.{not_taken, is_taken}
 use Rattle.resets.proofs.takes_at.Goals as goal

@@ -3,11 +3,9 @@ use Rattle.limits.specs.declared.share.Share.{Share}
 use Rattle.wellformed.proofs.Turns.{sum_on, sum_end}
 use Rattle.octets.specs.Number.{two}
 use Rattle.layout.specs.Layout.{reservation_at, held_at}
-use Rattle.table.specs.Memory.{sum_at, unmet_at}
-use lib.ListN.{length}
-use Prim.Native.Nat.{◌+◌, ◌*◌, ◌-◌, ◌≤◌}
+use Rattle.table.specs.Memory.{unmet_at}
+use Prim.Native.Nat.{◌+◌}
 use mathlib.Core.Path.{◌≡◌, ap}
-use borrow.Author.Rules.{rules}
 use native.Mathlib.Omega.{arith}
 use Rattle.wellformed.proofs.add_up.Goals as goal
 

@@ -1,13 +1,10 @@
-use Prim.Native.Nat.{ℕ, ◌+◌, ◌*◌, ◌-◌, ◌≤◌}
+use Prim.Native.Nat.{ℕ, ◌+◌, ◌*◌, ◌-◌}
 use mathlib.Core.Path.{◌≡◌, refl, sym, ap, ◌∙◌}
-use lib.ListN.{length}
-use borrow.Author.Tests.{not-true, not-false}
 use Rattle.octets.specs.Number.{two}
 use Rattle.model.specs.Place.{places_ok}
 use Rattle.layout.specs.Layout.{held_at}
-use Rattle.table.specs.Memory.{sum_at, bodies_at}
+use Rattle.table.specs.Memory.{bodies_at}
 use Rattle.wellformed.proofs.Turns.{sum_on, bodies_on, bodies_off, bodies_end}
-use borrow.Author.Rules.{rules}
 use native.Mathlib.Omega.{arith}
 use Rattle.wellformed.proofs.bodies_ok.Goals as goal
 use Rattle.wellformed.proofs.bodies_ok.Goals.{After-places_ok}

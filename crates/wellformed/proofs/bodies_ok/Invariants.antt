@@ -1,14 +1,8 @@
-use Prim.Native.Nat.{ℕ, ◌+◌, ◌*◌, ◌-◌, ◌≤◌}
-use mathlib.Core.Path.{◌≡◌, refl, sym, ap, ◌∙◌}
+use Prim.Native.Nat.{◌+◌, ◌*◌, ◌≤◌}
+use mathlib.Core.Path.{◌≡◌}
 use lib.ListN.{length}
-use borrow.Author.Tests.{not-true, not-false}
-use Rattle.octets.specs.Number.{two}
-use Rattle.model.specs.Place.{places_ok}
 use Rattle.layout.specs.Layout.{held_at}
 use Rattle.table.specs.Memory.{sum_at, bodies_at}
-use Rattle.wellformed.proofs.Turns.{sum_on, bodies_on, bodies_off, bodies_end}
-use borrow.Author.Rules.{rules}
-use native.Mathlib.Omega.{arith}
 use Rattle.wellformed.proofs.bodies_ok.Given as goal
 
 abbrev pub invariant-loop-left : goal.invariant-loop-left

@@ -1,10 +1,9 @@
 -- Each refusal lacks a fact of the head; where all tests pass, the spare octets decide.
-use borrow.Author.Rules.{rules}
 use native.Mathlib.Omega.{arith}
 use Rattle.limits.specs.Test.{◌&◌}
 use Rattle.layout.specs.Layout.{head_size, most_places, most_stations, capacity_in, stations_in, size_in}
 use Rattle.table.specs.Memory.{head_at}
-use borrow.Author.Tests.{le-leb, not-true, not-false}
+use borrow.Author.Tests.{le-leb}
 use lib.ListN.{length}
 use Prim.Native.Nat.{◌≤◌}
 use mathlib.Core.Path.{sym, ◌∙◌}

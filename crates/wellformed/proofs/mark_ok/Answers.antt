@@ -1,4 +1,3 @@
-use borrow.Author.Rules.{rules}
 use Rattle.table.specs.Memory.{mark_at}
 use lib.Dec.{eqb}
 use mathlib.Core.Path.{ap}

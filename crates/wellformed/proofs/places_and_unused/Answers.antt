@@ -1,8 +1,6 @@
 use mathlib.Core.Path.{sym, ◌∙◌}
-use borrow.Author.Tests.{not-true, not-false}
 use Rattle.limits.specs.Test.{◌&◌}
 use Rattle.wellformed.specs.Station.{places_at}
-use borrow.Author.Rules.{rules}
 use Rattle.wellformed.proofs.places_and_unused.Goals as goal
 
 pub returns-then-not-bodies_ok : goal.returns-then-not-bodies_ok

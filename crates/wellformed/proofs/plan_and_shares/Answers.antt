@@ -1,10 +1,9 @@
-use borrow.Author.Rules.{rules}
 use native.Mathlib.Omega.{arith}
 use Rattle.limits.specs.Test.{◌&◌}
 use Rattle.layout.specs.Layout.{held_at}
 use Rattle.table.specs.Memory.{sum_at, shares_at}
 use Rattle.table.specs.Table.{shares_ok}
-use borrow.Author.Tests.{eq-eqb, ne_eqb, not-true, not-false}
+use borrow.Author.Tests.{eq-eqb, ne_eqb}
 use mathlib.Core.Path.{◌≡◌, sym, ◌∙◌}
 use Rattle.wellformed.proofs.plan_and_shares.Goals as goal
 

@@ -1,11 +1,6 @@
-use borrow.Author.Rules.{rules}
 use native.Mathlib.Omega.{arith}
 use Rattle.wellformed.proofs.Turns.{plan_on, plan_off, plan_end}
 use Rattle.octets.specs.Number.{two}
-use Rattle.table.specs.Memory.{plan_at}
-use borrow.Author.Tests.{not-true, not-false}
-use lib.ListN.{length}
-use Prim.Native.Nat.{◌+◌, ◌*◌, ◌≤◌}
 use mathlib.Core.Path.{◌≡◌, refl, sym, ◌∙◌}
 use Rattle.wellformed.proofs.plan_ok.Goals as goal
 

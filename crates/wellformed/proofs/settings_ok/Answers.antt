@@ -1,4 +1,3 @@
-use borrow.Author.Rules.{rules}
 use Rattle.table.specs.Memory.{settings_at}
 use Rattle.wellformed.proofs.settings_ok.Goals as goal
 

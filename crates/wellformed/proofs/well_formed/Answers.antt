@@ -1,14 +1,12 @@
 use Prim.Native.Nat.{◌+◌, ◌*◌}
 use mathlib.Core.Path.{◌≡◌, sym, ◌∙◌}
 use mathlib.Core.Bool.{true}
-use borrow.Author.Tests.{not-true, not-false}
 use Rattle.limits.specs.Test.{◌&◌}
 use Rattle.octets.specs.Number.{two}
 use Rattle.layout.specs.Layout.{held_at}
 use Rattle.table.specs.Memory.{sum_at, head_at, shares_at, well_formed}
 use Rattle.table.proofs.Parse.{head_is, shares_is}
 use Rattle.wellformed.specs.Station.{places_at}
-use borrow.Author.Rules.{rules}
 use native.Mathlib.Omega.{arith}
 use Rattle.wellformed.proofs.well_formed.Goals as goal
 use Rattle.wellformed.proofs.well_formed.Goals.{After-plan_and_shares, Else-not-head_ok}
