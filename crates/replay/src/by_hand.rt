@@ -1,6 +1,6 @@
 // The two forms by hand, in the same way as the calls of the C interface, whose names their lines have: a batch as a slice of point
 // records, a system command with the clock lent as a record.
-use crate::commands::asdu_in;
+use crate::command_calls::asdu_in;
 use crate::reply::print_reply;
 use khuvelter::Reply;
 use script::reading::{length_in_four, length_in_two, part, past};

@@ -3,7 +3,7 @@
 #![tactic(auto)]
 
 mod by_hand;
-mod commands;
+mod command_calls;
 mod registration;
 mod reply;
 mod run;

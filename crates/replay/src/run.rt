@@ -1,5 +1,5 @@
 // The replay of a list: reads the script that an argument names, makes its steps one after another.
-use crate::{by_hand, commands, registration};
+use crate::{by_hand, command_calls, registration};
 use script::line;
 use script::memory::{checksum, least};
 use script::prepare::{Lent, moved, prepare, start};
@@ -29,16 +29,16 @@ fn call<W: Write>(
     let letter = octet(script, at);
     let after = past(script, at, 1);
     if letter == b'c' {
-        return commands::started(out, after, table, answer);
+        return command_calls::started(out, after, table, answer);
     }
     if letter == b's' {
-        return commands::system(out, script, after, table, clock, answer);
+        return command_calls::system(out, script, after, table, clock, answer);
     }
     if letter == b'k' {
         return by_hand::system(out, script, after, table, clock, answer);
     }
     if letter == b'p' {
-        return commands::process(out, script, after, table, answer, spontaneous);
+        return command_calls::process(out, script, after, table, answer, spontaneous);
     }
     registration::call(out, script, letter, after, table)
 }
