@@ -1,6 +1,6 @@
 /* Khuvelter: the proved point table and command answers of an IEC 60870-5-104 gateway, for C and C++.
  *
- * Link libkhuvelter.a (x86-64; `rt staticlib khuvelter` writes it to target/staticlib/); it needs memset and nothing else.
+ * Link libkhuvelter.a (x86-64; `rust/library` writes it to target/staticlib/); it needs memcpy and memset, nothing else.
  * The library keeps nothing between calls: it allocates nothing, and all it knows lies in the memory that you lend it.
  *
  * What is proved of every function here (crates/khuvelter): for any octets, any lengths and any table it gives an answer and ends;

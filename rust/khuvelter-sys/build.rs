@@ -1,4 +1,4 @@
-//! Finds libkhuvelter.a, the proved library. It stands in the folder that `KHUVELTER_LIB_DIR` names (a whole path), else where `rt staticlib khuvelter`
+//! Finds libkhuvelter.a, the proved library. It stands in the folder that `KHUVELTER_LIB_DIR` names (a whole path), else where `rust/library`
 //! writes it: `target/staticlib` at the top of the repository.
 
 use std::env;
@@ -27,7 +27,7 @@ fn main() {
         let why = if asked.is_some() { "KHUVELTER_LIB_DIR names that folder" } else { "KHUVELTER_LIB_DIR is not set" };
         stop(&format!(
             "There is no {} ({why}).\n\
-             Make it at the top of the repository: rt staticlib khuvelter    (or ./run, which does that and more)\n\
+             Make it at the top of the repository: rust/library    (or ./run, which does that and more)\n\
              Or set KHUVELTER_LIB_DIR to the folder that has {LIBRARY}.",
             library.display()
         ));

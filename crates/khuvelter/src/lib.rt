@@ -107,16 +107,14 @@ fn flat_share(share: StationShare) -> Share
 // ---- the entries
 
 // Opens a table of capacity K under a plan, CA, reservation and ceiling for each station: 10, or 0 and the fresh table.
-#[unsafe(no_mangle)]
-pub extern "C" fn khuvelter_open(table: &mut [u8], capacity: u32, plan: &[u16]) -> Reply
+pub fn khuvelter_open(table: &mut [u8], capacity: u32, plan: &[u16]) -> Reply
     ensures { Meets (open_table capacity plan.now) (table_alone table.old) result (table_alone table.new) }
 {
     plain_reply(opening::open(table, capacity, plan))
 }
 
 // Registers one point, given as a record of 24 octets: 3, then 11 to 15 and 17, then 19 and 20.
-#[unsafe(no_mangle)]
-pub extern "C" fn khuvelter_register_point(table: &mut [u8], record: &[u8; 24]) -> Reply
+pub fn khuvelter_register_point(table: &mut [u8], record: &[u8; 24]) -> Reply
     ensures { Meets (change (register_point «record».now)) (table_alone table.old) result (table_alone table.new) }
 {
     let request = model::request_at(record, 0);
@@ -124,48 +122,42 @@ pub extern "C" fn khuvelter_register_point(table: &mut [u8], record: &[u8; 24]) 
 }
 
 // Registers a batch of points, given as records of 24 octets one after another: all or none; octets after the last whole record are ignored.
-#[unsafe(no_mangle)]
-pub extern "C" fn khuvelter_register_points(table: &mut [u8], records: &[u8]) -> Reply
+pub fn khuvelter_register_points(table: &mut [u8], records: &[u8]) -> Reply
     ensures { Meets (change (register_points records.now)) (table_alone table.old) result (table_alone table.new) }
 {
     place_reply(batch::register_points(table, records))
 }
 
 // Removes one point: 3, then 18.
-#[unsafe(no_mangle)]
-pub extern "C" fn khuvelter_unregister_point(table: &mut [u8], ca: u16, ioa: u32) -> Reply
+pub fn khuvelter_unregister_point(table: &mut [u8], ca: u16, ioa: u32) -> Reply
     ensures { Meets (change (unregister_point ca ioa)) (table_alone table.old) result (table_alone table.new) }
 {
     place_reply(actor::unregister_point(table, ca, ioa))
 }
 
 // Removes all points: 3, else their number as the place; the plan stays.
-#[unsafe(no_mangle)]
-pub extern "C" fn khuvelter_unregister_all(table: &mut [u8]) -> Reply
+pub fn khuvelter_unregister_all(table: &mut [u8]) -> Reply
     ensures { Meets (change unregister_all) (table_alone table.old) result (table_alone table.new) }
 {
     place_reply(actor::unregister_all(table))
 }
 
 // The start of a connection: 3, then 4, else the end of initialisation.
-#[unsafe(no_mangle)]
-pub extern "C" fn khuvelter_connection_started(table: &[u8], answer: &mut [u8]) -> Reply
+pub fn khuvelter_connection_started(table: &[u8], answer: &mut [u8]) -> Reply
     ensures { Meets (ask connection_started) (lent table.now [] answer.old []) result (lent table.now [] answer.new []) }
 {
     answer_reply(connection_start::connection_started(table, answer))
 }
 
 // The share of a station: 3, then 12.
-#[unsafe(no_mangle)]
-pub extern "C" fn khuvelter_share(table: &[u8], ca: u16) -> Share
+pub fn khuvelter_share(table: &[u8], ca: u16) -> Share
     ensures { result ≡ flat_share (share_on ca table.now) }
 {
     flat_share(actor::station_share(table, ca))
 }
 
 // A system command: interrogation, counters, read, clock, tests, reset process. `clock` is seven octets of time and the known flag.
-#[unsafe(no_mangle)]
-pub extern "C" fn khuvelter_system_command(
+pub fn khuvelter_system_command(
     table: &mut [u8],
     clock: &mut [u8; 8],
     asdu: &[u8],
@@ -180,8 +172,7 @@ pub extern "C" fn khuvelter_system_command(
 }
 
 // A process command with the caller's proposal; `negative` is 0 for no, anything else for yes.
-#[unsafe(no_mangle)]
-pub extern "C" fn khuvelter_process_command(
+pub fn khuvelter_process_command(
     table: &mut [u8],
     asdu: &[u8],
     negative: u8,

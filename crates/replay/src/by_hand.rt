@@ -1,9 +1,10 @@
 // The two forms by hand, in the same way as the calls of the C interface, whose names their lines have: a batch as a slice of point
 // records, a system command with the clock lent as a record.
-use crate::commands::asdu_in;
+use crate::command_calls::asdu_in;
 use crate::reply::print_reply;
 use khuvelter::Reply;
 use script::reading::{length_in_four, length_in_two, part, past};
+use std::io::{Result, Write};
 
 // Octets of a record, and of three.
 const RECORD: usize = 24;
@@ -32,12 +33,13 @@ fn register(table: &mut [u8], records: &[u8]) -> registry::Reply {
 }
 
 // Register a batch.
-pub fn batch(script: &[u8], at: usize, table: &mut [u8]) -> usize {
+pub fn batch<W: Write>(out: &mut W, script: &[u8], at: usize, table: &mut [u8]) -> Result<usize> {
     let length = length_in_four(script, at);
     let start = past(script, at, 4);
     let reply = register(table, part(script, start, length));
     let outcome = reply.outcome;
     print_reply(
+        out,
         b"batch",
         Reply {
             number: outcome.number(),
@@ -45,18 +47,19 @@ pub fn batch(script: &[u8], at: usize, table: &mut [u8]) -> usize {
             octets: 0,
             spontaneous: 0,
         },
-    );
-    past(script, start, length)
+    )?;
+    Ok(past(script, start, length))
 }
 
 // A system command.
-pub fn system(
+pub fn system<W: Write>(
+    out: &mut W,
     script: &[u8],
     at: usize,
     table: &mut [u8],
     clock: &mut [u8; 8],
     answer: &mut [u8],
-) -> usize {
+) -> Result<usize> {
     let mut asdu = [0u8; 512];
     let next = asdu_in(script, at, &mut asdu);
     let length = length_in_two(script, at);
@@ -68,6 +71,7 @@ pub fn system(
     let answered = told.answered;
     let outcome = answered.outcome;
     print_reply(
+        out,
         b"system",
         Reply {
             number: outcome.number(),
@@ -75,6 +79,6 @@ pub fn system(
             octets: narrow(answered.octets),
             spontaneous: 0,
         },
-    );
-    next
+    )?;
+    Ok(next)
 }

@@ -3,16 +3,18 @@
 #![tactic(auto)]
 
 mod by_hand;
-mod commands;
+mod command_calls;
 mod registration;
 mod reply;
 mod run;
 
-fn main() {
-    let count = os::arg_count();
-    let mut i = 1;
-    while i < count {
-        run::replay_list(i);
-        i += 1;
+use std::io::{BufWriter, Write};
+use std::{env, io};
+
+fn main(rt: HostRuntime) -> io::Result<()> {
+    let mut out = BufWriter::new(rt.alloc(), io::writer(&rt))?;
+    for name in env::args(&rt)?.skip(1) {
+        run::replay_list(&rt, &mut out, name.as_str())?;
     }
+    out.flush()
 }

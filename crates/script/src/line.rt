@@ -1,27 +1,24 @@
 // The lines that a replay prints: one for each list, and one for each call.
-use libc::STDOUT_FILENO;
+use std::io::{Result, Write};
 
 // The line above the calls of a list: its name.
-pub fn heading(name: &[u8]) {
-    io::write_all(STDOUT_FILENO, b"list ");
-    io::write_all(STDOUT_FILENO, name);
-    io::write_all(STDOUT_FILENO, b"\n");
+pub fn heading<W: Write>(out: &mut W, name: &[u8]) -> Result<()> {
+    out.write_all(b"list ")?;
+    out.write_all(name)?;
+    out.write_all(b"\n")
 }
 
 // Begins a line with the name of the entry.
-pub fn begin(name: &[u8]) {
-    io::write_all(STDOUT_FILENO, name);
+pub fn begin<W: Write>(out: &mut W, name: &[u8]) -> Result<()> {
+    out.write_all(name)
 }
 
 // Goes on with a number.
-pub fn number(n: u32) {
-    io::write_all(STDOUT_FILENO, b" ");
-    io::print_decimal(STDOUT_FILENO, n as u64);
+pub fn number<W: Write>(out: &mut W, n: u32) -> Result<()> {
+    write!(out, " {n}")
 }
 
 // Ends the line with the checksum.
-pub fn end(sum: u64) {
-    io::write_all(STDOUT_FILENO, b" ");
-    io::print_decimal(STDOUT_FILENO, sum);
-    io::write_all(STDOUT_FILENO, b"\n");
+pub fn end<W: Write>(out: &mut W, sum: u64) -> Result<()> {
+    writeln!(out, " {sum}")
 }

@@ -26,20 +26,16 @@ pub fn least(a: usize, b: usize) -> usize
 // that zeros count too.
 pub fn checksum(before: u64, memory: &[u8]) -> u64 {
     let mut sum = before % MODULUS;
-    let mut i = 0;
-    while i < memory.len() {
-        sum = (sum * MULTIPLIER + wide(memory[i]) + 1) % MODULUS;
-        i += 1;
+    for octet in memory {
+        sum = (sum * MULTIPLIER + wide(*octet) + 1) % MODULUS;
     }
     sum
 }
 
 // Sets every octet.
 pub fn fill(memory: &mut [u8], octet: u8) {
-    let mut i = 0;
-    while i < memory.len() {
-        memory[i] = octet;
-        i += 1;
+    for place in memory.iter_mut() {
+        *place = octet;
     }
 }
 
@@ -60,19 +56,15 @@ pub fn put(memory: &mut [u8], at: usize, octet: u8) {
 // Copies to the start of a memory what fits of another.
 pub fn copy_in(from: &[u8], to: &mut [u8]) {
     let n = least(from.len(), to.len());
-    let mut i = 0;
-    while i < n {
+    for i in 0..n {
         to[i] = from[i];
-        i += 1;
     }
 }
 
 // Reads numbers of two octets, as many as there are and fit.
 pub fn numbers_in(from: &[u8], to: &mut [u16]) {
     let n = least(from.len() / 2, to.len());
-    let mut i = 0;
-    while i < n {
+    for i in 0..n {
         to[i] = two(from, 2 * i);
-        i += 1;
     }
 }

@@ -12,7 +12,7 @@ const VALUE: usize = 12;
 // The octet that follows another at the same place of the next record, which has this IOA.
 fn following(before: u8, place: usize, ioa: u32) -> u8 {
     if VALUE <= place {
-        return std::num::wrapping_add_u8(before, 1);
+        return before.wrapping_add(1);
     }
     if place == ADDRESS {
         return (ioa % 256) as u8;
@@ -31,23 +31,19 @@ fn following(before: u8, place: usize, ioa: u32) -> u8 {
 
 // Writes one record: to the IOA and to each octet of the value of another one 1 is added.
 fn next_record(batch: &mut [u8], from: usize, to: usize) {
-    let ioa = std::num::wrapping_add_u32(four(batch, past(batch, from, ADDRESS)), 1);
-    let mut place = 0;
-    while place < RECORD {
+    let ioa = four(batch, past(batch, from, ADDRESS)).wrapping_add(1);
+    for place in 0..RECORD {
         let before = octet(batch, past(batch, from, place));
         put(batch, past(batch, to, place), following(before, place, ioa));
-        place += 1;
     }
 }
 
 // Makes a series of so many records of the one that stands first.
 pub fn series(batch: &mut [u8], count: usize) {
     let mut from = 0;
-    let mut made = 1;
-    while made < count {
+    for _made in 1..count {
         let to = past(batch, from, RECORD);
         next_record(batch, from, to);
         from = to;
-        made += 1;
     }
 }

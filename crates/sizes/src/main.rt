@@ -6,84 +6,86 @@
 ghost use Rattle.std.specs.Prelude.{◌≤◌};
 
 use limits::size::Class;
-
-// Standard output.
-const OUT: i32 = 1;
+use std::io;
+use std::io::{BufWriter, Write};
 
 // The most points of a table.
 const MOST_POINTS: usize = 4096;
 
-fn main() {
-    let mut kind = 0usize;
-    while kind < 256 {
-        type_line(kind as u8);
-        kind += 1;
+fn main(rt: HostRuntime) -> io::Result<()> {
+    let mut out = BufWriter::new(rt.alloc(), io::writer(&rt))?;
+    for kind in 0..=255u8 {
+        type_line(&mut out, kind)?;
     }
-    let mut point = 0usize;
-    while point < 256 {
-        run_line(point as u8);
-        point += 1;
+    for point in 0..=255u8 {
+        run_line(&mut out, point)?;
     }
+    out.flush()
 }
 
 // A type's number, class, element octets and most objects.
-fn type_line(kind: u8) {
+fn type_line<W: Write>(out: &mut W, kind: u8) -> io::Result<()> {
     let element = limits::size::element_octets(kind);
-    io::write_all(OUT, b"type");
-    number(kind as usize);
-    class(limits::size::class_of(kind));
-    number(element);
-    number(limits::size::most_objects(limits::size::STANDARD_LIMIT, element));
-    io::write_all(OUT, b"\n");
+    out.write_all(b"type")?;
+    number(out, usize::from(kind))?;
+    class(out, limits::size::class_of(kind))?;
+    number(out, element)?;
+    number(
+        out,
+        limits::size::most_objects(limits::size::STANDARD_LIMIT, element),
+    )?;
+    out.write_all(b"\n")
 }
 
 // The octets of a point type's runs; nothing for any other type.
-fn run_line(kind: u8) {
+fn run_line<W: Write>(out: &mut W, kind: u8) -> io::Result<()> {
     let element = limits::size::point_octets(kind);
     if element == 0 {
-        return;
+        return Ok(());
     }
     let most = limits::size::most_objects(limits::size::STANDARD_LIMIT, element);
-    io::write_all(OUT, b"run");
-    number(kind as usize);
-    runs(element, most);
-    io::write_all(OUT, b"\n");
+    out.write_all(b"run")?;
+    number(out, usize::from(kind))?;
+    runs(out, element, most)?;
+    out.write_all(b"\n")
 }
 
 // The octets of the runs of one element size, `most` being its most objects in an ASDU.
-fn runs(element: usize, most: usize)
+fn runs<W: Write>(out: &mut W, element: usize, most: usize) -> io::Result<()>
     requires { (element ≤ 12) × (1 ≤ most) × (most ≤ 127) }
 {
-    run(element, 0);
-    run(element, 1);
-    run(element, most - 1);
-    run(element, most);
-    run(element, most + 1);
-    run(element, 2 * most);
-    run(element, 2 * most + 1);
-    run(element, MOST_POINTS);
+    run(out, element, 0)?;
+    run(out, element, 1)?;
+    run(out, element, most - 1)?;
+    run(out, element, most)?;
+    run(out, element, most + 1)?;
+    run(out, element, 2 * most)?;
+    run(out, element, 2 * most + 1)?;
+    run(out, element, MOST_POINTS)
 }
 
 // The octets of one run.
-fn run(element: usize, n: usize)
+fn run<W: Write>(out: &mut W, element: usize, n: usize) -> io::Result<()>
     requires { (element ≤ 12) × (n ≤ 65536) }
 {
-    number(limits::size::run_octets(limits::size::STANDARD_LIMIT, element, n));
+    number(
+        out,
+        limits::size::run_octets(limits::size::STANDARD_LIMIT, element, n),
+    )
 }
 
 // A space and the word for a class.
-fn class(class: Class) {
+fn class<W: Write>(out: &mut W, class: Class) -> io::Result<()> {
     match class {
-        Class::Point => io::write_all(OUT, b" point"),
-        Class::System => io::write_all(OUT, b" system"),
-        Class::Process => io::write_all(OUT, b" process"),
-        Class::EndOfInitialization => io::write_all(OUT, b" end"),
-        Class::Unknown => io::write_all(OUT, b" unknown"),
-    };
+        Class::Point => out.write_all(b" point"),
+        Class::System => out.write_all(b" system"),
+        Class::Process => out.write_all(b" process"),
+        Class::EndOfInitialization => out.write_all(b" end"),
+        Class::Unknown => out.write_all(b" unknown"),
+    }
 }
 
 // A space and a number.
-fn number(n: usize) {
-    io::write_all(OUT, b" ");
-    io::print_decimal(OUT, n as u64);
+fn number<W: Write>(out: &mut W, n: usize) -> io::Result<()> {
+    write!(out, " {n}")
 }

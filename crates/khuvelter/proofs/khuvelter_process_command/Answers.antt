@@ -7,7 +7,6 @@ use Rattle.answers.specs.Said.{Said, lent, answered_on, lent_after}
 use Rattle.answers.specs.Process.{process_said}
 use Rattle.commands.specs.Entry.{proposal_of}
 use Rattle.khuvelter.specs.Interface.{answer_reply}
-use borrow.Author.Rules.{rules}
 use Rattle.khuvelter.proofs.khuvelter_process_command.Goals as goal
 
 pub returns : goal.returns

@@ -1,5 +1,4 @@
 -- The request is the one in the record; then what the entry gives back, in plain numbers, and the memory as the entry leaves it. Assumes nothing.
-use borrow.Author.Rules.{rules}
 use mathlib.Core.Path.{ap, ◌∙◌}
 use Rattle.model.specs.declared.Request.{Request}
 use Rattle.registry.specs.Effect.{reply_on, memory_on}

@@ -1,5 +1,4 @@
 -- What the entry gives back, in plain numbers. Assumes nothing.
-use borrow.Author.Rules.{rules}
 use mathlib.Core.Path.{ap, ◌∙◌}
 use Rattle.khuvelter.specs.Interface.{flat_share}
 use Rattle.khuvelter.proofs.khuvelter_share.Goals as goal

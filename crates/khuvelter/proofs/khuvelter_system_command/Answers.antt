@@ -1,7 +1,6 @@
 -- What the entry gives back, in plain numbers; the memories are as the entry leaves them. Assumes nothing.
 use mathlib.Core.Path.{ap, ◌∙◌}
 use Rattle.khuvelter.specs.Interface.{answer_reply}
-use borrow.Author.Rules.{rules}
 use Rattle.khuvelter.proofs.khuvelter_system_command.Goals as goal
 
 pub returns : goal.returns

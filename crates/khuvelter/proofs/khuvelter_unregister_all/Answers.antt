@@ -1,5 +1,4 @@
 -- What the entry gives back, in plain numbers; the memory is as the entry leaves it. Assumes nothing.
-use borrow.Author.Rules.{rules}
 use mathlib.Core.Path.{ap, ◌∙◌}
 use Rattle.khuvelter.specs.Interface.{place_reply}
 use Rattle.khuvelter.specs.Calls.{table_alone}

@@ -1,5 +1,4 @@
 -- Field by field. Assumes nothing.
-use borrow.Author.Rules.{rules}
 use Rattle.khuvelter.proofs.plain_reply.Goals as goal
 
 pub returns : goal.returns

@@ -2,14 +2,16 @@
 use crate::reply::print_reply;
 use script::memory::copy_in;
 use script::reading::{length_in_four, length_in_two, octet, part, past};
+use std::io::{Result, Write};
 
 // Start of a connection.
-pub fn started(at: usize, table: &[u8], answer: &mut [u8]) -> usize {
+pub fn started<W: Write>(out: &mut W, at: usize, table: &[u8], answer: &mut [u8]) -> Result<usize> {
     print_reply(
+        out,
         b"started",
         khuvelter::khuvelter_connection_started(table, answer),
-    );
-    at
+    )?;
+    Ok(at)
 }
 
 // The octets of an ASDU: those given in the script, then zeros.
@@ -21,31 +23,34 @@ pub fn asdu_in(script: &[u8], at: usize, asdu: &mut [u8]) -> usize {
 }
 
 // A system command.
-pub fn system(
+pub fn system<W: Write>(
+    out: &mut W,
     script: &[u8],
     at: usize,
     table: &mut [u8],
     clock: &mut [u8; 8],
     answer: &mut [u8],
-) -> usize {
+) -> Result<usize> {
     let mut asdu = [0u8; 512];
     let next = asdu_in(script, at, &mut asdu);
     let length = length_in_two(script, at);
     print_reply(
+        out,
         b"system",
         khuvelter::khuvelter_system_command(table, clock, part(&asdu, 0, length), answer),
-    );
-    next
+    )?;
+    Ok(next)
 }
 
 // A process command with its proposal.
-pub fn process(
+pub fn process<W: Write>(
+    out: &mut W,
     script: &[u8],
     at: usize,
     table: &mut [u8],
     answer: &mut [u8],
     spontaneous: &mut [u8],
-) -> usize {
+) -> Result<usize> {
     let mut asdu = [0u8; 512];
     let flags = asdu_in(script, at, &mut asdu);
     let length = length_in_two(script, at);
@@ -57,6 +62,7 @@ pub fn process(
     let updates_length = length_in_four(script, after);
     let updates = past(script, after, 4);
     print_reply(
+        out,
         b"process",
         khuvelter::khuvelter_process_command(
             table,
@@ -68,6 +74,6 @@ pub fn process(
             answer,
             spontaneous,
         ),
-    );
-    past(script, updates, updates_length)
+    )?;
+    Ok(past(script, updates, updates_length))
 }
