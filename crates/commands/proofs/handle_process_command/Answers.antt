@@ -1,6 +1,4 @@
 -- Each way out is one of the laws: the refusals are decided from sizes before anything is written. Assumes nothing.
-use borrow.Author.Rules.{rules}
-use borrow.Author.Tests.{not-true, not-false}
 use native.Mathlib.Omega.{arith}
 use mathlib.Core.Path.{◌≡◌, sym, ap, ◌∙◌}
 use mathlib.Core.List.{[]}
@@ -11,7 +9,7 @@ use Rattle.limits.specs.Test.{pick}
 use Rattle.octets.specs.Over.{over}
 use Rattle.table.specs.Settings.{limit_of}
 use Rattle.table.specs.Memory.{table_of}
-use Rattle.answers.specs.Said.{Lent, lent}
+use Rattle.answers.specs.Said.{lent}
 use Rattle.answers.specs.Process.{update_octets, proposal_ok, process_cause_taken}
 use Rattle.answers.proofs.Proposals.{most_reply, whole_reply}
 use Rattle.updates.specs.Updates.{told_by_all, left_by_all}

@@ -1,6 +1,4 @@
 -- 3, then the reading's own tests, then the command that was read. Assumes nothing.
-use borrow.Author.Rules.{rules}
-use borrow.Author.Tests.{not-true, not-false}
 use mathlib.Core.Path.{◌≡◌, sym, ap, ◌∙◌}
 use mathlib.Core.List.{[]}
 use mathlib.Core.Bool.{true}
@@ -9,8 +7,8 @@ use Rattle.table.specs.Memory.{well_formed, table_of}
 use Rattle.table.specs.Settings.{limit_of}
 use Rattle.asdu.specs.declared.command.Entry.TheVariants.{ProcessCommands}
 use Rattle.asdu.specs.Command.{read_as}
-use Rattle.answers.specs.Said.{Lent, lent, nothing}
-use Rattle.answers.specs.Process.{Proposal, process_said}
+use Rattle.answers.specs.Said.{lent, nothing}
+use Rattle.answers.specs.Process.{process_said}
 use Rattle.answers.proofs.Ends.{ends_no_table}
 use Rattle.commands.specs.Entry.{proposal_of}
 use Rattle.commands.proofs.Laws.{gives, process_unread, process_read}

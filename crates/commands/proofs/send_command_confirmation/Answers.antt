@@ -1,5 +1,4 @@
 -- The reply with its count and cause: whole objects that were read are written as they lay, and fewer than an octet can count. Assumes nothing.
-use borrow.Author.Rules.{rules}
 use native.Mathlib.Omega.{arith}
 use native.Mathlib.Nat.{div-le_self}
 use mathlib.Core.Path.{sym, ap, ◌∙◌}

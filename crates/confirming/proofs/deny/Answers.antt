@@ -3,7 +3,6 @@ use mathlib.Core.Bool.{true}
 use Rattle.asdu.proofs.Lengths.{length_confirmation}
 use Rattle.answers.specs.System.{denied}
 use Rattle.answers.proofs.Ends.{one_nothing, one_all}
-use borrow.Author.Rules.{rules}
 use native.Mathlib.Omega.{arith}
 use Rattle.confirming.proofs.deny.Goals as goal
 

@@ -2,7 +2,6 @@
 use Rattle.asdu.specs.Confirmation.{echo}
 use Rattle.asdu.proofs.Lengths.{length_echo}
 use Rattle.answers.proofs.Ends.{one_nothing, one_all}
-use borrow.Author.Rules.{rules}
 use native.Mathlib.Omega.{arith}
 use Rattle.confirming.proofs.echo.Goals as goal
 

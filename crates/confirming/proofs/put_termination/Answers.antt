@@ -4,7 +4,6 @@ use Rattle.octets.proofs.Laws.{lent_over}
 use Rattle.asdu.specs.Header.{asdu_octets}
 use Rattle.asdu.proofs.Lengths.{length_confirmation}
 use Rattle.answers.specs.System.{terminated}
-use borrow.Author.Rules.{rules}
 use native.Mathlib.Omega.{arith}
 use Rattle.confirming.proofs.put_termination.Goals as goal
 

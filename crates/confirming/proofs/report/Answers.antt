@@ -20,7 +20,6 @@ use Rattle.report.specs.Order.{points_for}
 use Rattle.output.specs.Data.{data_of, wrote, written}
 use Rattle.output.proofs.Reached.{reached}
 use Rattle.confirming.proofs.Laws.{data_is, no_room, has_room, all_written}
-use borrow.Author.Rules.{rules}
 use native.Mathlib.Omega.{arith}
 use Rattle.confirming.proofs.report.Goals as goal
 use Rattle.confirming.proofs.report.Goals.{After-put_data, In-Octets}

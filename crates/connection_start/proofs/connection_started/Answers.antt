@@ -1,6 +1,4 @@
 -- Each way out is one of the laws; the head of a well_formed_lem table bounds the reads. Assumes nothing.
-use borrow.Author.Rules.{rules}
-use borrow.Author.Tests.{not-true, not-false}
 use native.Mathlib.Omega.{arith}
 use mathlib.Core.Path.{◌≡◌, sym, ◌∙◌}
 use mathlib.Core.List.{[]}

@@ -1,5 +1,4 @@
 -- The four octets of the object are IOA 0 and octet 0.
-use borrow.Author.Rules.{rules}
 use native.Mathlib.Omega.{arith}
 use Rattle.asdu.specs.Joined.{joined}
 use Rattle.asdu.specs.Header.{object_octets, asdu_octets}

@@ -1,10 +1,5 @@
-use borrow.Author.Rules.{rules}
 use native.Mathlib.Omega.{arith}
-use mathlib.Core.Path.{◌≡◌, refl, sym, ◌∙◌}
-use Prim.Native.Nat.{◌+◌, ◌*◌, ◌≤◌}
-use lib.ListN.{length}
-use Rattle.layout.specs.Layout.{station_size}
-use Rattle.connection_start.specs.Starting.{common_address_at}
+use mathlib.Core.Path.{refl, sym, ◌∙◌}
 use Rattle.connection_start.proofs.Laws.{address_here, address_on, address_end}
 use Rattle.connection_start.proofs.station_common_address.Goals as goal
 

@@ -1,12 +1,9 @@
 -- What is left of the stations gives the same address at each turn.
-use borrow.Author.Rules.{rules}
-use native.Mathlib.Omega.{arith}
-use mathlib.Core.Path.{◌≡◌, refl, sym, ◌∙◌}
+use mathlib.Core.Path.{◌≡◌}
 use Prim.Native.Nat.{◌+◌, ◌*◌, ◌≤◌}
 use lib.ListN.{length}
 use Rattle.layout.specs.Layout.{station_size}
 use Rattle.connection_start.specs.Starting.{common_address_at}
-use Rattle.connection_start.proofs.Laws.{address_here, address_on, address_end}
 use Rattle.connection_start.proofs.station_common_address.Given as goal
 
 abbrev pub invariant-loop-left : goal.invariant-loop-left

@@ -5,7 +5,6 @@ use Rattle.answers.specs.declared.Choice.{Choice}
 use Rattle.answers.specs.System.{answer_to}
 use Rattle.answers.proofs.Ends.{sends_along}
 use Rattle.interrogations.specs.Interrogations.{CauseOf}
-use borrow.Author.Rules.{rules}
 use Rattle.interrogations.proofs.answer_to.Goals as goal
 
 pub returns-in_default : goal.returns-in_default

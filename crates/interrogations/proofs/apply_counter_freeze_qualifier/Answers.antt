@@ -7,7 +7,6 @@ use Rattle.output.proofs.Reached.{reached}
 use Rattle.resets.specs.Resets.{reset_places}
 use Rattle.interrogations.proofs.Resets.{reach_reset}
 use Rattle.interrogations.proofs.Laws.{no_action, none_chosen, some_chosen}
-use borrow.Author.Rules.{rules}
 use native.Mathlib.Omega.{arith}
 use Rattle.interrogations.proofs.apply_counter_freeze_qualifier.Goals as goal
 

@@ -4,7 +4,6 @@ use Prim.Native.Nat.{ℕ}
 use Rattle.report.specs.declared.Selection.TheVariants.{CounterGroup}
 use Rattle.answers.specs.declared.Choice.TheVariants.{Selected}
 use Rattle.interrogations.proofs.Laws.{chooses_all, chooses_none_below, chooses_none_above, chooses_group}
-use borrow.Author.Rules.{rules}
 use native.Mathlib.Omega.{arith}
 use Rattle.interrogations.proofs.chosen.Goals as goal
 

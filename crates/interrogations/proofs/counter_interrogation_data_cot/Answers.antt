@@ -2,7 +2,6 @@
 use mathlib.Core.Path.{sym, ap, ◌∙◌}
 use Prim.Native.Nat.{ℕ, ◌+◌}
 use borrow.Author.Tests.{eq-eqb, ne_eqb}
-use borrow.Author.Rules.{rules}
 use Rattle.interrogations.proofs.counter_interrogation_data_cot.Goals as goal
 
 pub returns-then-choice-eq5 : goal.returns-then-choice-eq5

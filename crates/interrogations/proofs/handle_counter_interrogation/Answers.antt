@@ -1,7 +1,6 @@
 -- The answer, then the reset if it was given. Assumes nothing.
 use mathlib.Core.Path.{◌≡◌, sym, ap, subst, ◌∙◌}
 use mathlib.Core.Bool.{true, false}
-use borrow.Author.Tests.{not-true, not-false}
 use Rattle.limits.specs.Test.{pick}
 use Rattle.limits.specs.Outcome.{is_done}
 use Rattle.table.specs.Memory.{table_of}
@@ -13,7 +12,6 @@ use Rattle.answers.specs.System.{chosen, counter_cause, resets, reset_by, answer
 use Rattle.answers.proofs.Ends.{sends_along}
 use Rattle.interrogations.specs.Interrogations.{CauseOf}
 use Rattle.interrogations.proofs.Laws.{counter_slots, chosen_cause}
-use borrow.Author.Rules.{rules}
 use Rattle.interrogations.proofs.handle_counter_interrogation.Goals as goal
 use Rattle.interrogations.proofs.handle_counter_interrogation.Goals.{After-answer_to-answered}
 

@@ -7,7 +7,6 @@ use Rattle.answers.specs.System.{interrogated, answer_to, interrogation_answer}
 use Rattle.answers.proofs.Ends.{sends_along}
 use Rattle.interrogations.specs.Interrogations.{CauseOf}
 use Rattle.interrogations.proofs.Laws.{interrogation_slots, interrogated_cause}
-use borrow.Author.Rules.{rules}
 use Rattle.interrogations.proofs.handle_interrogation.Goals as goal
 
 pub answer_to-requires : goal.answer_to-requires

@@ -1,7 +1,6 @@
 -- Each qualifier leads to its choice. Assumes nothing.
 use mathlib.Core.Path.{sym}
 use Rattle.interrogations.proofs.Laws.{asks_all, asks_none_below, asks_none_above, asks_group}
-use borrow.Author.Rules.{rules}
 use Rattle.interrogations.proofs.interrogated.Goals as goal
 
 pub returns-then-qualifier-eq-INTERROGATION_GENERAL : goal.returns-then-qualifier-eq-INTERROGATION_GENERAL

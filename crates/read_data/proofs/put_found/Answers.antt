@@ -1,5 +1,4 @@
 -- By the two answers of `find`: the ASDU of the point found, or nothing.
-use borrow.Author.Rules.{rules}
 use native.Mathlib.Omega.{arith}
 use mathlib.Core.Path.{sym, ap, ◌∙◌}
 use mathlib.Core.List.{List}

@@ -1,11 +1,7 @@
-use borrow.Author.Rules.{rules}
 use native.Mathlib.Omega.{arith}
-use Prim.Native.Nat.{◌+◌, ◌*◌, ◌≤◌}
-use lib.ListN.{length}
-use Rattle.limits.specs.Size.{address_octets}
 use Rattle.asdu.specs.Header.{wire}
-use Rattle.octets.proofs.Log.{Log, log_start}
-use Rattle.read_data.specs.Reads.{requested_at, requested_by}
+use Rattle.octets.proofs.Log.{log_start}
+use Rattle.read_data.specs.Reads.{requested_by}
 use Rattle.read_data.proofs.Writing.{next_fits, next_in, all_in}
 use Rattle.read_data.proofs.put_requested.Goals as goal
 

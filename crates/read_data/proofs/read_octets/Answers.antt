@@ -1,12 +1,8 @@
-use borrow.Author.Rules.{rules}
 use native.Mathlib.Omega.{arith}
-use mathlib.Core.Path.{◌≡◌, sym, ap, ◌∙◌}
-use Prim.Native.Nat.{ℕ, ◌+◌, ◌*◌, ◌-◌, ◌≤◌}
-use lib.ListN.{length}
-use Rattle.limits.specs.Size.{header_octets, address_octets}
+use mathlib.Core.Path.{sym, ap, ◌∙◌}
+use Prim.Native.Nat.{ℕ}
 use Rattle.lookup.specs.Find.{find_at}
-use Rattle.read_data.specs.declared.Asked.TheVariants.{Known}
-use Rattle.read_data.specs.Reads.{asked_of, together, asked_at}
+use Rattle.read_data.specs.Reads.{asked_of}
 use Rattle.read_data.proofs.Turns.{asked_small, together_none, asked_on, asked_missing, asked_end}
 use Rattle.read_data.proofs.read_octets.Goals as goal
 

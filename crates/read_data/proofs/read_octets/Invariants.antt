@@ -1,14 +1,10 @@
 -- What was counted and what is left make the whole at each turn.
-use borrow.Author.Rules.{rules}
-use native.Mathlib.Omega.{arith}
-use mathlib.Core.Path.{◌≡◌, sym, ap, ◌∙◌}
-use Prim.Native.Nat.{ℕ, ◌+◌, ◌*◌, ◌-◌, ◌≤◌}
+use mathlib.Core.Path.{◌≡◌}
+use Prim.Native.Nat.{◌+◌, ◌*◌, ◌-◌, ◌≤◌}
 use lib.ListN.{length}
 use Rattle.limits.specs.Size.{header_octets, address_octets}
-use Rattle.lookup.specs.Find.{find_at}
 use Rattle.read_data.specs.declared.Asked.TheVariants.{Known}
-use Rattle.read_data.specs.Reads.{asked_of, together, asked_at}
-use Rattle.read_data.proofs.Turns.{asked_small, together_none, asked_on, asked_missing, asked_end}
+use Rattle.read_data.specs.Reads.{together, asked_at}
 use Rattle.read_data.proofs.read_octets.Given as goal
 
 abbrev pub invariant-loop-left : goal.invariant-loop-left

@@ -9,11 +9,10 @@ use Rattle.table.specs.Table.{Table}
 use Rattle.table.specs.Memory.{table_of}
 use Rattle.table.specs.Settings.{limit_of}
 use Rattle.registry.specs.Effect.{holding}
-use Rattle.answers.specs.Said.{Said, Lent, lent}
+use Rattle.answers.specs.Said.{Said, lent}
 use Rattle.answers.specs.System.{command_said}
 use Rattle.answers.proofs.Ends.{ends_sent, ends_says}
-use Rattle.system_command_handler.proofs.Ways.{Sizes, sizes_of, element_is, one_octet, said_interrogation, said_counters, said_read, said_clock, said_echo, same_clock}
-use borrow.Author.Rules.{rules}
+use Rattle.system_command_handler.proofs.Ways.{sizes_of, element_is, one_octet, said_interrogation, said_counters, said_read, said_clock, said_echo, same_clock}
 use native.Mathlib.Omega.{arith}
 use Rattle.system_command_handler.proofs.dispatch_rtu_system_handler.Goals as goal
 

@@ -1,9 +1,7 @@
 -- The echo, and the clock if it was given. Assumes nothing.
 use mathlib.Core.Path.{◌≡◌, sym, ◌∙◌}
 use mathlib.Core.Bool.{true, false}
-use borrow.Author.Tests.{not-true, not-false}
 use Rattle.limits.specs.Outcome.{is_done}
-use borrow.Author.Rules.{rules}
 use Rattle.system_command_handler.proofs.handle_clock_sync.Goals as goal
 
 pub returns-then-not-is_done : goal.returns-then-not-is_done

@@ -3,15 +3,13 @@ use mathlib.Core.Path.{◌≡◌, refl, sym, ◌∙◌}
 use mathlib.Core.Bool.{true, false}
 use mathlib.Core.List.{[]}
 use Rattle.limits.specs.declared.outcome.Outcome.TheVariants.{Silent}
-use Rattle.table.specs.Table.{Table}
 use Rattle.table.specs.Memory.{table_of}
 use Rattle.table.specs.Settings.{limit_of}
 use Rattle.asdu.proofs.Reading.{no_first, first_is}
-use Rattle.answers.specs.Said.{Said, Lent, lent, nothing}
+use Rattle.answers.specs.Said.{lent}
 use Rattle.answers.specs.System.{system_said, is_silent}
 use Rattle.answers.proofs.Ends.{ends_refused, ends_alike}
 use Rattle.system_command_handler.proofs.Ways.{sizes_of, silent_none, silent_some, silent_says, taken_says}
-use borrow.Author.Rules.{rules}
 use native.Mathlib.Omega.{arith}
 use Rattle.system_command_handler.proofs.handle_ingress_asdu.Goals as goal
 use Rattle.system_command_handler.proofs.handle_ingress_asdu.Goals.{Start}

@@ -10,7 +10,6 @@ use Rattle.asdu.specs.Command.{object_at}
 use Rattle.answers.specs.Said.{size}
 use Rattle.read_data.proofs.Entry.{Requested, read_bounds, requested_law, missing_address_law, unplanned_read_law}
 use Rattle.system_command_handler.proofs.Laws.{read_denied, read_short, read_written}
-use borrow.Author.Rules.{rules}
 use native.Mathlib.Omega.{arith}
 use Rattle.system_command_handler.proofs.handle_read.Goals as goal
 use Rattle.system_command_handler.proofs.handle_read.Goals.{In-Here, In-Known, Start}

@@ -3,11 +3,10 @@ use mathlib.Core.Path.{◌≡◌, sym, ap, ◌∙◌}
 use mathlib.Core.Bool.{true, false, Bool, ◌||◌, not}
 use Prim.Native.Nat.{◌≤◌, ℕ}
 use lib.ListN.{length, get_or, get_or-eq_default}
-use borrow.Author.Tests.{not-true, not-false, eq-eqb, ne_eqb}
+use borrow.Author.Tests.{eq-eqb, ne_eqb}
 use lib.Dec.{eqb}
 use Rattle.limits.specs.Test.{◌&◌}
 use Rattle.answers.specs.System.{cause_taken, qualifier_of, interrogation_type}
-use borrow.Author.Rules.{rules}
 use native.Mathlib.Omega.{arith}
 use Rattle.system_command_handler.proofs.is_skipped.Goals as goal
 use Rattle.system_command_handler.proofs.is_skipped.Goals.{Start}

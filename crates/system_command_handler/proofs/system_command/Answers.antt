@@ -3,17 +3,14 @@ use mathlib.Core.Path.{◌≡◌, sym, ap, ◌∙◌}
 use mathlib.Core.Bool.{true, false}
 use mathlib.Core.List.{[]}
 use Prim.Native.Nat.{ℕ}
-use borrow.Author.Tests.{not-true, not-false}
-use Rattle.table.specs.Table.{Table}
 use Rattle.table.specs.Memory.{well_formed, table_of}
 use Rattle.table.specs.Settings.{limit_of}
 use Rattle.asdu.specs.Command.{read_as}
 use Rattle.asdu.specs.declared.command.Entry.TheVariants.{SystemCommands}
-use Rattle.answers.specs.Said.{Said, Lent, lent, nothing}
+use Rattle.answers.specs.Said.{lent}
 use Rattle.answers.specs.System.{system_said}
 use Rattle.answers.proofs.Ends.{ends_no_table, ends_refused}
 use Rattle.system_command_handler.proofs.Ways.{unread_says}
-use borrow.Author.Rules.{rules}
 use Rattle.system_command_handler.proofs.system_command.Goals as goal
 use Rattle.system_command_handler.proofs.system_command.Goals.{After-parse-reading, Else-not-well_formed}
 

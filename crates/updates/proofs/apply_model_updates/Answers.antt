@@ -1,7 +1,6 @@
 use native.Mathlib.Omega.{arith}
 use Rattle.octets.specs.Number.{Octets}
-use Rattle.updates.proofs.Turns.{Going, going_start, going_room, going_on, going_end}
-use borrow.Author.Rules.{rules}
+use Rattle.updates.proofs.Turns.{going_start, going_room, going_on, going_end}
 use Rattle.updates.proofs.apply_model_updates.Goals as goal
 
 pub loop-left-init : goal.loop-left-init

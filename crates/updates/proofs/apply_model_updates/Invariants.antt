@@ -1,8 +1,5 @@
 -- One update after another: the memory holds a table at every turn, and what is told follows what was told before. Assumes nothing.
-use native.Mathlib.Omega.{arith}
-use Rattle.octets.specs.Number.{Octets}
-use Rattle.updates.proofs.Turns.{Going, going_start, going_room, going_on, going_end}
-use borrow.Author.Rules.{rules}
+use Rattle.updates.proofs.Turns.{Going}
 use Rattle.updates.proofs.apply_model_updates.Given as goal
 
 abbrev pub invariant-loop-left : goal.invariant-loop-left

@@ -13,7 +13,6 @@ use Rattle.report.specs.Single.{single}
 use Rattle.answers.specs.Process.{update_octets}
 use Rattle.updates.specs.Updates.{told_one}
 use Rattle.updates.proofs.Turns.{skipped_told, skipped_left, place_inside, place_told, place_left, over_none}
-use borrow.Author.Rules.{rules}
 use Rattle.updates.proofs.apply_one.Goals as goal
 
 pub returns-in_default : goal.returns-in_default

@@ -1,5 +1,4 @@
 -- Each way out is one case of `target_at`; that what is found lies in the memory is the table's good form. Assumes nothing.
-use borrow.Author.Rules.{rules}
 use native.Mathlib.Omega.{arith}
 use mathlib.Core.Path.{◌≡◌, sym, ap, ◌∙◌}
 use Prim.Native.Nat.{◌+◌}

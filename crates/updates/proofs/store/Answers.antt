@@ -4,7 +4,6 @@ use Prim.Native.Nat.{ℕ, ◌+◌}
 use lib.ListN.{take, drop}
 use Rattle.octets.specs.Over.{over}
 use Rattle.updates.specs.Updates.{stored}
-use borrow.Author.Rules.{rules}
 use Rattle.updates.proofs.store.Goals as goal
 
 pub returns : goal.returns

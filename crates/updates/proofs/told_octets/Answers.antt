@@ -1,11 +1,8 @@
 use mathlib.Core.Path.{◌≡◌}
-use Prim.Native.Nat.{◌+◌, ◌*◌, ◌-◌, ◌≤◌}
 use native.Mathlib.Omega.{arith}
 use lib.ListN.{length}
-use Rattle.answers.specs.Process.{update_octets}
-use Rattle.updates.specs.Updates.{most_told, told_one}
-use Rattle.updates.proofs.Turns.{size_left, size_on, size_end, size_all}
-use borrow.Author.Rules.{rules}
+use Rattle.updates.specs.Updates.{told_one}
+use Rattle.updates.proofs.Turns.{size_on, size_end, size_all}
 use Rattle.updates.proofs.told_octets.Goals as goal
 
 pub loop-left-init : goal.loop-left-init

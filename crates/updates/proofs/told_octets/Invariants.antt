@@ -1,12 +1,10 @@
 -- The sum runs over the updates in the table at entry; what is told in all is as long, since no update changes a type or an address. Assumes nothing.
 use mathlib.Core.Path.{◌≡◌}
 use Prim.Native.Nat.{◌+◌, ◌*◌, ◌-◌, ◌≤◌}
-use native.Mathlib.Omega.{arith}
 use lib.ListN.{length}
 use Rattle.answers.specs.Process.{update_octets}
-use Rattle.updates.specs.Updates.{most_told, told_one}
-use Rattle.updates.proofs.Turns.{size_left, size_on, size_end, size_all}
-use borrow.Author.Rules.{rules}
+use Rattle.updates.specs.Updates.{most_told}
+use Rattle.updates.proofs.Turns.{size_left}
 use Rattle.updates.proofs.told_octets.Given as goal
 
 abbrev pub invariant-loop-left : goal.invariant-loop-left

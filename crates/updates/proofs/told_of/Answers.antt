@@ -7,7 +7,6 @@ use Rattle.limits.specs.Size.{point_octets}
 use Rattle.octets.specs.Number.{Octets}
 use Rattle.answers.specs.Process.{update_type_offset}
 use Rattle.updates.proofs.Turns.{skipped_told, place_length}
-use borrow.Author.Rules.{rules}
 use Rattle.updates.proofs.told_of.Goals as goal
 
 pub returns-in_default : goal.returns-in_default

@@ -1,5 +1,4 @@
 -- The chains of the places in order give the size and the octets of the report; the test of the room decides.
-use borrow.Author.Rules.{rules}
 use native.Mathlib.Omega.{arith}
 use mathlib.Core.Path.{◌≡◌, refl, ap, ◌∙◌}
 use Prim.Native.Nat.{ℕ}

@@ -1,5 +1,4 @@
 -- The places are put in the order of an answer and linked in it; the counts of the chains give the size.
-use borrow.Author.Rules.{rules}
 use native.Mathlib.Omega.{arith}
 use mathlib.Core.Path.{ap, ◌∙◌, subst}
 use mathlib.Core.List.{List}

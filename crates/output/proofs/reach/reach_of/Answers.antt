@@ -1,5 +1,4 @@
 -- The test for 65,535 is the definition's, and the seat is the one that was found.
-use borrow.Author.Rules.{rules}
 use mathlib.Core.Path.{sym, ap, ◌∙◌}
 use mathlib.Core.Bool.{Bool, true}
 use Prim.Native.Nat.{ℕ}

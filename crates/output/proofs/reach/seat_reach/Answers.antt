@@ -1,5 +1,4 @@
 -- Each arm is the definition's.
-use borrow.Author.Rules.{rules}
 use mathlib.Core.Path.{sym, ap}
 use Rattle.output.specs.Reach.{seat_reach}
 use Rattle.output.proofs.reach.seat_reach.Goals as goal

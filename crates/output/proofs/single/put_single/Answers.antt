@@ -1,5 +1,4 @@
 -- What is written at the front of the lent part is written from `o` on.
-use borrow.Author.Rules.{rules}
 use native.Mathlib.Omega.{arith}
 use Rattle.octets.proofs.Laws.{lent_over}
 use Rattle.asdu.specs.Header.{asdu_octets}
