@@ -1,6 +1,6 @@
 -- Memory past a table's own octets is the caller's: every call leaves it as it was, since a table under the same K and plan has as many octets.
 -- Assumes nothing.
-use Prim.Native.Nat.{ℕ, ◌+◌}
+use Prim.Native.Nat.{ℕ}
 use mathlib.Core.Path.{◌≡◌, refl, sym, ap, ◌∙◌, subst}
 use mathlib.Core.List.{List, ◌++◌}
 use mathlib.Core.Bool.{Bool, true, false}

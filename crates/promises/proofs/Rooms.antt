@@ -18,7 +18,7 @@ use Rattle.limits.proofs.Shares.{no_room, no_room_only, at_ceiling, at_ceiling_o
 use Rattle.model.specs.declared.Request.{Request}
 use Rattle.model.specs.Request.{own_fault}
 use Rattle.model.proofs.Requests.{faultless}
-use Rattle.table.specs.Table.{Station, Table, held, unmet, share_of, good}
+use Rattle.table.specs.Table.{Station, Table, held, unmet, share_of}
 use Rattle.table.specs.Change.{station_of}
 use Rattle.table.proofs.Parse.{Good}
 use Rattle.table.proofs.Shares.{total_held, total_unmet}

@@ -16,7 +16,7 @@ use Rattle.limits.specs.declared.outcome.Outcome.TheVariants.{Done, CeilingReach
 use Rattle.limits.proofs.Outcomes.{not_both}
 use Rattle.model.specs.declared.Request.{Request}
 use Rattle.model.specs.Request.{request_at}
-use Rattle.table.specs.Table.{Station, Table, held, good}
+use Rattle.table.specs.Table.{Station, Table, held}
 use Rattle.table.specs.Change.{station_of}
 use Rattle.table.proofs.Parse.{Good, good_is, is_good}
 use Rattle.registry.specs.declared.Reply.{Reply as TableReply}

@@ -1,5 +1,4 @@
 -- Each way out is one case of the definition. Assumes nothing.
-use borrow.Author.Rules.{rules}
 use borrow.Author.Tests.{eq-eqb, ne_eqb}
 use mathlib.Core.Path.{refl, sym, ◌∙◌}
 use Rattle.among.specs.Fold.{looked, stepped}

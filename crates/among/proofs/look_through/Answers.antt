@@ -1,7 +1,7 @@
 -- A turn looks at one point; past the last point, or where it is done, nothing is left to look at.
-use Rattle.std.proofs.Common.{◌≡◌, ◌+◌, ◌<◌, length, drop, sym, ap, ◌∙◌, arith}
+use Rattle.std.proofs.Common.{◌+◌, drop, sym, ap, ◌∙◌, arith}
 use borrow.Author.Tests.{not-true, not-false}
-use Rattle.among.specs.Fold.{at, folded, stepped}
+use Rattle.among.specs.Fold.{folded}
 use Rattle.among.proofs.Turns.{at_end, at_done, at_more}
 use Rattle.among.proofs.look_through.Goals as goal
 

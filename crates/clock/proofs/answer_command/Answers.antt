@@ -7,7 +7,6 @@ use Rattle.clock.proofs.Laws.{Flagged, flagged_clock, flagged_after, same_octets
 use Rattle.answers.specs.Said.{Lent, lent, as_it_is, Leaves}
 use Rattle.answers.specs.System.{system_said}
 use Rattle.clock.specs.Clock.{octets_of, flag_of}
-use borrow.Author.Rules.{rules}
 use native.Mathlib.Omega.{arith}
 use Rattle.clock.proofs.answer_command.Goals as goal
 

@@ -7,7 +7,6 @@ use lib.ListN.{get_or}
 use lib.Dec.{eqb}
 use Rattle.table.proofs.Points.{gets, gets_drop}
 use Rattle.clock.specs.declared.Clock.{Clock}
-use borrow.Author.Rules.{rules}
 use native.Mathlib.Omega.{arith}
 use Rattle.clock.proofs.clock_of.Goals as goal
 

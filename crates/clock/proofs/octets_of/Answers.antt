@@ -5,7 +5,6 @@ use mathlib.Core.List.{List}
 use lib.Seq.{take_all}
 use Rattle.table.proofs.Points.{gets, gets_drop}
 use Rattle.clock.specs.Clock.{with_flag}
-use borrow.Author.Rules.{rules}
 use native.Mathlib.Omega.{arith}
 use Rattle.clock.proofs.octets_of.Goals as goal
 

@@ -1,7 +1,7 @@
 -- A turn tests one point; past the last point, or where one has a fault, nothing is left to test.
-use Rattle.std.proofs.Common.{◌≡◌, ◌+◌, ◌<◌, length, drop, sym, ap, ◌∙◌, arith}
+use Rattle.std.proofs.Common.{◌+◌, drop, sym, ap, ◌∙◌, arith}
 use borrow.Author.Tests.{not-true, not-false}
-use Rattle.point_lists.specs.Fold.{at, folded, stepped}
+use Rattle.point_lists.specs.Fold.{folded}
 use Rattle.point_lists.proofs.Turns.{at_end, at_done, at_more}
 use Rattle.point_lists.proofs.later_tests.Goals as goal
 

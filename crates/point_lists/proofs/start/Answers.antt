@@ -1,5 +1,4 @@
 -- The slice's own bound on its elements says that they are octets. Assumes nothing.
-use borrow.Author.Rules.{rules}
 use native.Mathlib.Omega.{arith}
 use mathlib.Core.Path.{refl, ap}
 use mathlib.Core.Bool.{Bool, not}

@@ -5,7 +5,6 @@ use Prim.Native.Nat.{ℕ, ◌*◌}
 use borrow.Author.Tests.{lt-ltb, le-ltb}
 use Rattle.octets.specs.Over.{over}
 use Rattle.points.specs.Fold.{stepped}
-use borrow.Author.Rules.{rules}
 use Rattle.points.proofs.lay_down.Goals as goal
 
 pub returns-then-count-m : goal.returns-then-count-m

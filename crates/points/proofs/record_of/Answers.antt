@@ -1,7 +1,6 @@
 -- The octets one by one, each group taken apart by its own function. Assumes nothing.
 use mathlib.Core.Path.{refl}
 use Rattle.points.specs.Points.{flat_record}
-use borrow.Author.Rules.{rules}
 use Rattle.points.proofs.record_of.Goals as goal
 
 pub returns : goal.returns

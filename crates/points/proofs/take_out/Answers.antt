@@ -1,7 +1,7 @@
 -- A turn takes one record out of the slice and lays it down; past the last record, or where there is no room, nothing is left to do.
-use Rattle.std.proofs.Common.{◌≡◌, ◌+◌, ◌<◌, length, drop, sym, ap, ◌∙◌, arith}
+use Rattle.std.proofs.Common.{◌+◌, drop, sym, ap, ◌∙◌, arith}
 use borrow.Author.Tests.{not-true, not-false}
-use Rattle.points.specs.Fold.{at, folded, stepped}
+use Rattle.points.specs.Fold.{folded}
 use Rattle.points.proofs.Turns.{at_end, at_done, at_more}
 use Rattle.points.proofs.take_out.Goals as goal
 
