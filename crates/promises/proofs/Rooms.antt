@@ -49,8 +49,8 @@ kept_is admission.CeilingReached e = let z : ◌≡◌ {A = ℕ} 19 20 = ap numb
 kept_is NoRoom e = refl
 
 module _ (t : Table) (ca : ℕ) (s : Station) (g : Good t) (f : station_of ca t.stations ≡ some s) where
-  abbrev free_in : ℕ
-  free_in = free_of t.capacity (map share_of t.stations)
+  abbrev free_in_lem : ℕ
+  free_in_lem = free_of t.capacity (map share_of t.stations)
 
   abbrev unmet_in_lem : ℕ
   unmet_in_lem = total unmet_of (map share_of t.stations)
@@ -60,8 +60,8 @@ module _ (t : Table) (ca : ℕ) (s : Station) (g : Good t) (f : station_of ca t.
   ceiling_rule =
       let h = (station_numbers t ca s g f).held_within in
       record {
-        only = λ e. let c = at_ceiling_only (share_of s) free_in unmet_in_lem (full_is (admission_in t.capacity (map share_of t.stations) (share_of s)) e) in omega arith;
-        always = λ e. ap admission_outcome (at_ceiling (share_of s) free_in unmet_in_lem (omega arith));
+        only = λ e. let c = at_ceiling_only (share_of s) free_in_lem unmet_in_lem (full_is (admission_in t.capacity (map share_of t.stations) (share_of s)) e) in omega arith;
+        always = λ e. ap admission_outcome (at_ceiling (share_of s) free_in_lem unmet_in_lem (omega arith));
       }
 
   room_rule : Exactly (room_fault t (some s) ≡ NotAdmitted) (NotAdmittedIn t s)
@@ -71,12 +71,12 @@ module _ (t : Table) (ca : ℕ) (s : Station) (g : Good t) (f : station_of ca t.
       let u : total unmet_of (map share_of t.stations) ≡ total unmet t.stations = total_unmet t.stations in
       record {
         only = λ e.
-            let n = no_room_only (share_of s) free_in unmet_in_lem (kept_is (admission_in t.capacity (map share_of t.stations) (share_of s)) e) in
+            let n = no_room_only (share_of s) free_in_lem unmet_in_lem (kept_is (admission_in t.capacity (map share_of t.stations) (share_of s)) e) in
             let k = n.kept in
             record { below_ceiling = n.below_ceiling; reservation_met = n.met; free_is_kept = omega arith };
         always = λ n.
             let k = n.free_is_kept in
-            ap admission_outcome (no_room (share_of s) free_in unmet_in_lem (record { below_ceiling = n.below_ceiling; met = n.reservation_met; kept = omega arith }));
+            ap admission_outcome (no_room (share_of s) free_in_lem unmet_in_lem (record { below_ceiling = n.below_ceiling; met = n.reservation_met; kept = omega arith }));
       }
 
 -- A rule: an outcome of the room test other than Done, and what it says of a table and a station.
