@@ -25,6 +25,7 @@ const OBJECT_OCTETS: usize = ADDRESS_OCTETS + 1;
 const END_OF_INITIALIZATION_OCTETS: usize = HEADER_OCTETS + OBJECT_OCTETS;
 
 // The common address of the first of the n stations from `at` that holds a point, or 0: the smallest, since the stations stand in ascending order.
+#[tactic(auto, using(crate::proofs::Laws::address_here, crate::proofs::Laws::address_on, crate::proofs::Laws::address_end))]
 fn station_common_address(m: &[u8], at: usize, n: usize) -> usize
     requires { at + station_size * n ≤ length m.now }
     ensures { (result ≡ common_address_at m.now at n) × (result < 65536) }

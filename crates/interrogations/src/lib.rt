@@ -31,6 +31,7 @@ pub fn qualifier_of(asdu: &[u8]) -> u8
 }
 
 // An interrogation's: 20 selects all points, 21 to 36 those of group 1 to 16.
+#[tactic(auto, using(crate::proofs::Laws::asks_all, crate::proofs::Laws::asks_none_below, crate::proofs::Laws::asks_none_above, crate::proofs::Laws::asks_group))]
 fn interrogated(qualifier: u8) -> Choice
     ensures { result ≡ interrogated qualifier }
 {

@@ -1,3 +1,4 @@
 pub mod Limits
 pub mod Within
 pub mod Requests
+pub mod Groups

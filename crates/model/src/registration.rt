@@ -40,6 +40,7 @@ pub fn request_at(records: &[u8], at: usize) -> Request
 }
 
 // Does a group that is given lie from 1 to `most`?
+#[tactic(auto, using(crate::proofs::Groups::group_below, crate::proofs::Groups::group_from))]
 fn group_ok(most: u8, group: Group) -> bool
     ensures { result ≡ group_ok most group }
 {

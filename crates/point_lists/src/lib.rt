@@ -101,6 +101,7 @@ fn passed(s: Later) -> Later
 }
 
 // A point passes, or its fault is kept; the first points pass untested.
+#[tactic(auto, unfolding(crate::specs::Later::judged))]
 fn judge(m: &mut [u8], s: Later, p: Request, found: Search) -> Later
     ensures { (result ≡ judged m.old s p found) × (m.new ≡ m.old) }
 {
@@ -143,6 +144,7 @@ pub fn later_tests(m: &mut [u8], all: &[Request], points: &[Request], s: Later) 
 }
 
 // The reply for the first points, where it is no refusal for room (19, 20); else the first fault of a later point comes before it.
+#[tactic(auto, unfolding(crate::specs::Later::answer_of))]
 fn answer_of(later: Later, first: Reply) -> Reply
     ensures { result ≡ answer_of later first }
 {
