@@ -18,6 +18,8 @@ import sys
 HEAD = re.compile(r"^((?:(?:unfoldable|abbrev|pub)\s+)*)(?:(record|data)\s+)?([^\s(){}:;,.=]+)(?:\s+([({].*?))?\s*:\s*(.*)$")
 FIELD = re.compile(r"^\s+(?:(?:abbrev|unfoldable|pub)\s+)*([^\s(){}:;,.=|]+)\s*:\s")
 TOKEN = re.compile(r'[^\s(){}.;,@"«»`]+')
+# A word of the documents that is a field's name too: the field gets a name of its own, and comments keep the word.
+CHOSEN = {"well-formed": "is_well_formed"}
 NO_NAMES = ("infix", "infixl", "infixr", "use", "mod", "unfolding", "where", "let", "--")
 # Local names in camel case: of a `where`, a `let`, an import's `as`.
 LOCAL = "lookedThrough ofFirst ofOthers arrayTy wholeRecord sortedNumbers insertedNumber removeAll memoryAfterAll replyType".split()
@@ -72,7 +74,7 @@ def table():
     for name in sorted(homes, key=lambda n: (is_dashed(n), n)):
         if not (is_camel(name) or is_dashed(name)):
             continue
-        new = snake(name)
+        new = CHOSEN.get(name, snake(name))
         if name in facts:
             new = name[0].upper() + name[1:]
         if new in taken and not is_dashed(name):
@@ -132,7 +134,9 @@ def main(argv):
         text = open(path, encoding="utf-8").read()
         if path.endswith(".antt"):
             of_function = len(os.path.relpath(path).split(os.sep)) > 4 and "/proofs/" in path
-            new = turn_tokens(text, turned, fields, foreign(text), not of_function)
+            stays = foreign(text)
+            lines = [turn_tokens(l, turned, fields, stays | set(CHOSEN) if l.lstrip().startswith("--") else stays, not of_function) for l in text.split("\n")]
+            new = "\n".join(lines)
         elif path.endswith(".edit") and re.search(r"^file: .*\.antt", text, re.M):
             new = turn_tokens(text, turned, fields, (), True)
         elif path.endswith(".md"):

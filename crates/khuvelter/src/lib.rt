@@ -1,5 +1,5 @@
 // The C interface: every entry with plain numbers, octets and lent memory. DESIGN.md, section 5. No function requires anything of its arguments.
-// From C or Rust each slice is two arguments, a pointer and a length.
+// The crate `khuvelter_c` exports them.
 #![tactic(auto)]
 
 ghost use Rattle.std.specs.Prelude.{◌≡◌, []};

@@ -124,7 +124,7 @@ seat_points m t ca i first h g l d =
 
 -- ---- the laws as a caller has them, who asked `well_formed`
 
--- What a seat of a well_formed_lem table says: the station, its places, its points, and bounds on the numbers.
+-- What a seat of a well-formed table says: the station, its places, its points, and bounds on the numbers.
 pub record Seen (m : List ℕ) (ca i first h : ℕ) : Type 0 where
   pub seat : Seated (table_of m).stations ca 0 64 i first h
   pub lies : At m first (places_of ca seat.s.points)
@@ -133,7 +133,7 @@ pub record Seen (m : List ℕ) (ca i first h : ℕ) : Type 0 where
   pub places : first + 48 * h ≤ 64 + 48 * two m 8
   pub stations : i < two m 6
 
--- A seat found in a well_formed_lem memory.
+-- A seat found in a well-formed memory.
 pub seat_law : (m : List ℕ) (ca i first h : ℕ) → Octets m → well_formed m ≡ true → seat_at m ca ≡ Here i first h → Seen m ca i first h
 seat_law m ca i first h o w e =
     let gl = holds m o w in

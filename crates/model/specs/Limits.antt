@@ -1,4 +1,4 @@
--- The limits of a place by its type, as the code compares numbers of several octets at once: nobody need believe them, `places_ok` is told in `places_ok`.
+-- The limits of a place by its type, as the code compares numbers of several octets at once: nobody need believe them, the code's `places_ok` is told in the definition of that name.
 use Rattle.std.specs.Prelude.{ℕ, ◌-◌, min, List, ◌++◌, leb}
 use Rattle.limits.specs.Test.{pick}
 use Rattle.limits.specs.Size.{point_octets, values_from}

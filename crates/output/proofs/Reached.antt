@@ -48,7 +48,7 @@ all_read m pb sb (suc n) =
     ap (λ (l : List Point). points_at m pb (two m (sb + 6)) ++ l) (all_read m (pb + 48 * two m (sb + 6)) (sb + 8) n)
     ∙ sym (points_add m pb (two m (sb + 6)) (sum_at held_at m (sb + 8) n))
 
--- ---- the reach of a CA in a well_formed_lem memory
+-- ---- the reach of a CA in a well-formed memory
 
 pub record Reached (m : List ℕ) (ca : ℕ) (r : Reach) : Type 0 where
   pub lies : r.base + 48 * r.n ≤ length m
@@ -91,7 +91,7 @@ own_places m ca o w NotPlanned e =
     let t = (passed m w).top.long in
     record { lies = omega arith; few = omega arith; points = no_point m ∙ sym (ap points_of (absent_law m ca e)) }
 
--- THE REACH of a CA in a well_formed_lem memory lies there, and its points are those that the CA speaks of, in the order of an answer
+-- THE REACH of a CA in a well-formed memory lies there, and its points are those that the CA speaks of, in the order of an answer
 pub reached : (m : List ℕ) (ca : ℕ) → Octets m → well_formed m ≡ true → Reached m ca (reach_of m ca)
 unfolding reach_of
 reached m ca o w = by_address_lem (eqb ca global_address) refl

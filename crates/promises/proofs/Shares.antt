@@ -171,7 +171,7 @@ module _ (b : Books) (m : List ℕ) (a : Kept b m) where
       record {
         table = t;
         read = a.read;
-        well_formed_lem = is_good t a.is_good;
+        is_well_formed = is_good t a.is_good;
         capacity = a.capacity;
         plan = a.plan;
         holdings = λ ca. let c = a.counts ca in omega arith;

@@ -1,5 +1,5 @@
 -- Demand 3: "From a table opened under a valid plan, after any calls, each given the table as the call before left it: no station holds more than its
--- ceiling, and a well_formed_lem, unregistered point of a planned station holding less than its reservation is granted when registered alone, and at its
+-- ceiling, and a well-formed, unregistered point of a planned station holding less than its reservation is granted when registered alone, and at its
 -- turn in a batch is never refused for room. Holdings are points granted minus removed, counted from the calls since opening. Room is refused exactly
 -- by the share rule."
 use Rattle.std.specs.Prelude.{ℕ, suc, ◌+◌, ◌-◌, ◌≤◌, ◌<◌, ◌≡◌, List, [], ◌∷◌, map, true, false, ◌⊎◌, length, eqb}
@@ -93,7 +93,7 @@ books_after b m (s ∷ ss) = books_after (entered b s.call (reply_to s.call (len
 
 -- ---- who has room
 
--- "A well_formed_lem, unregistered point of a planned station."
+-- "A well-formed, unregistered point of a planned station."
 pub record Registrable (t : Table) (q : Request) (s : Station) : Type 0 where
   pub described : own_fault (is_planned (station_of q.ca t.stations)) q ≡ Done
   pub unregistered : is_registered q.ioa (station_of q.ca t.stations) ≡ false
@@ -143,7 +143,7 @@ pub record Stands (b : Books) (m : List ℕ) : Type 0 where
   -- a good table, with the K and the plan of the books;
   pub table : Table
   pub read : parse m ≡ some table
-  pub well_formed_lem : good table ≡ true
+  pub is_well_formed : good table ≡ true
   pub capacity : table.capacity ≡ b.capacity
   pub plan : map line_of table.stations ≡ b.plan
   -- "Holdings are points granted minus removed";
@@ -151,7 +151,7 @@ pub record Stands (b : Books) (m : List ℕ) : Type 0 where
   pub never_below : (ca : ℕ) → (b.tally ca).removed ≤ (b.tally ca).granted
   -- "no station holds more than its ceiling";
   pub ceilings : (ca : ℕ) (s : Station) → station_of ca table.stations ≡ some s → held s ≤ s.ceiling
-  -- "a well_formed_lem, unregistered point of a planned station holding less than its reservation is granted when registered alone,"
+  -- "a well-formed, unregistered point of a planned station holding less than its reservation is granted when registered alone,"
   pub granted_alone : (q : List ℕ) (l : Lent) (s : Station) → l.table ≡ m → Registrable table (request_at q 0) s → held s < s.reservation
       → (reply_to (change (register_point q)) l).number ≡ 0
   -- "and at its turn in a batch is never refused for room";

@@ -1,4 +1,4 @@
--- The laws as an entry has them, over a well_formed_lem memory: what the code counts and writes are the requested ASDUs of the points asked for,
+-- The laws as an entry has them, over a well-formed memory: what the code counts and writes are the requested ASDUs of the points asked for,
 -- of a planned station, and an address is missing exactly where the points asked for are none. Assumes nothing.
 use mathlib.Core.Path.{◌≡◌, refl, sym, ap, ◌∙◌}
 use mathlib.Core.List.{List, [], ◌∷◌, ◌++◌, map}

@@ -69,7 +69,7 @@ below_reservation_has_room t ca s g e h =
     let a' : admission_in k (map share_of t.stations) (share_of s) ≡ Admitted = ap (λ (l : List Share). admission_in k l (share_of s)) split ∙ a in
     ap (room_fault t) e ∙ ap admission_outcome a'
 
--- A well_formed_lem, unregistered point of a planned station holding less than its reservation is granted when registered alone.
+-- A well-formed, unregistered point of a planned station holding less than its reservation is granted when registered alone.
 pub granted_alone : (t : Table) (q : Request) (s : Station) → Good t → Passes t q → station_of q.ca t.stations ≡ some s → held s < s.reservation
     → (registering q t).outcome ≡ Done
 unfolding registering request_outcome

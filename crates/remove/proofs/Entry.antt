@@ -1,4 +1,4 @@
--- The laws as an entry has them, over a well_formed_lem memory: where the seat and the place were found, the bounds that the code asks, the table
+-- The laws as an entry has them, over a well-formed memory: where the seat and the place were found, the bounds that the code asks, the table
 -- that the memory holds afterwards, and that it is good. Assumes nothing.
 use mathlib.Core.Path.{◌≡◌, sym, ap, ◌∙◌}
 use mathlib.Core.List.{List, ◌++◌}

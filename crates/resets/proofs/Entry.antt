@@ -1,4 +1,4 @@
--- The laws as an entry has them, over a well_formed_lem memory: the bounds that the code asks, and the table that the memory holds afterwards,
+-- The laws as an entry has them, over a well-formed memory: the bounds that the code asks, and the table that the memory holds afterwards,
 -- for a planned station, for CA 65,535 and for a CA that is not planned. Assumes nothing.
 use mathlib.Core.Path.{◌≡◌, refl, sym, ap, ◌∙◌}
 use mathlib.Core.List.{List, [], ◌∷◌, ◌++◌}

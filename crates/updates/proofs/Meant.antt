@@ -1,4 +1,4 @@
--- Which point an update means: what the code finds in a well_formed_lem memory is the point that the definition names. Assumes nothing.
+-- Which point an update means: what the code finds in a well-formed memory is the point that the definition names. Assumes nothing.
 use mathlib.Core.Path.{◌≡◌, refl, sym, ap, ◌∙◌, subst}
 use mathlib.Core.List.{List, [], ◌∷◌}
 use mathlib.Core.Bool.{Bool, true, false}
@@ -30,7 +30,7 @@ use Rattle.answers.specs.Process.{Update, updated, update_of, revalued}
 use Rattle.updates.specs.declared.Target.TheVariants.{Place, Skipped}
 use Rattle.updates.specs.Updates.{target_on, target_in, target_at}
 
--- ---- bounds of what is found in a well_formed_lem memory
+-- ---- bounds of what is found in a well-formed memory
 
 module _ (m : List ℕ) (w : well_formed m ≡ true) where
   pub table_bounds : (two m 6 ≤ 64) × (64 + 48 * two m 4 + 8 * two m 6 ≤ length m)

@@ -1,4 +1,4 @@
--- Each way out is one of the laws; the head of a well_formed_lem table bounds the reads. Assumes nothing.
+-- Each way out is one of the laws; the head of a well-formed table bounds the reads. Assumes nothing.
 use native.Mathlib.Omega.{arith}
 use mathlib.Core.Path.{◌≡◌, sym, ◌∙◌}
 use mathlib.Core.List.{[]}
