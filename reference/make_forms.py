@@ -1,4 +1,4 @@
-"""Makes the replay list of the two forms by hand (crates/replay, forms): batches as slices of point records, and
+"""Makes the replay list of the two forms over records (crates/replay, forms): batches as slices of point records, and
 system commands with the clock lent.
 
 The program takes batches of no, one and three records to the entry over a slice of records; what is expected is what

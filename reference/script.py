@@ -127,7 +127,7 @@ CALLS = {
 }
 # A batch of a number of records like the one given.
 CALLS["n"] = CALLS["b"]._replace(parts=(number(2), RECORD), make=lambda m, *a: gateway.register_points(m.lent, series(*a)))
-# The two forms by hand: a batch of none, one or three records as a slice of point records; the clock lent as a record.
+# The two forms over records: a batch of none, one or three records as a slice of point records; the clock lent as a record.
 CALLS["l"] = CALLS["b"]
 CALLS["k"] = CALLS["s"]
 

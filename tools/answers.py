@@ -1,7 +1,7 @@
 #!/usr/bin/env python3
 """Turns proofs of the older form, proofs/F/Proof.antt over `Tie`, into Invariants.antt and Answers.antt.
 
-usage: rt names /tmp/names; python3 tools/answers.py /tmp/names CRATE..
+usage: rt names /tmp/names; python3 tools/answers.py /tmp/names CRATE..      at the top; it ran once, in the port (docs/PORT.md)
 
 /tmp/names/crates/CRATE/names.json says what each goal and each step was called and is called. An answer that only says `search rules` goes:
 the check tries that and more by itself. What the script cannot place is printed ('look:') and kept as it was.
@@ -256,7 +256,7 @@ def dedash(text, names):
     return re.sub(r'[^\s(){}.;,@"«»]+', lambda m: names.get(m.group(0), m.group(0)), text)
 
 
-def turn(path, f, module, crate):
+def turn(path, f, crate):
     text = open(path, encoding="utf-8").read()
     uses, invariants, answers, looks = [], [], [], []
     helpers = {}
@@ -316,7 +316,7 @@ def turn(path, f, module, crate):
             if not loop:
                 looks.append("no loop " + typed)
                 continue
-            (old, new), vs = f.loops[loop[0]]
+            (_, new), vs = f.loops[loop[0]]
             changed = f.changed[loop[0]]
             body = "\n".join(equations)
             bm = re.match(r"^(\S+)((?:\s+[^\s=]+)*)\s*=(\s*)(.*)$", body, re.S)
@@ -359,7 +359,6 @@ def turn(path, f, module, crate):
         # a lemma of the file's own
         body = "\n".join(lines)
         ARGS = r"(?: invariant-loop\w*| decreases-loop\w*)*"
-        places = re.findall(rf"tie\.([\w-]+)", body)
         hm = re.search(rf"\(({NAME}) : tie\.([\w-]+){ARGS}\)|: tie\.([\w-]+){ARGS} →", body)
         if hm:
             place = f.by_norm.get(norm(hm.group(2) or hm.group(3)))
@@ -417,7 +416,7 @@ def main(argv):
                 continue
             f = Function(d[key])
             f.identifiers = {w for p in glob.glob("crates/*/src/*.rt") for w in re.findall(r"\w+_\w+", open(p, encoding="utf-8").read())}
-            turn(path, f, module, crate)
+            turn(path, f, crate)
 
 
 if __name__ == "__main__":

@@ -1,4 +1,4 @@
-// Calls of the two forms by hand, with plain values in their signatures: arrays of point records, and a clock that comes and goes.
+// Calls of the two forms over records, with plain values in their signatures: arrays of point records, and a clock that comes and goes.
 #![tactic(auto)]
 
 ghost use Rattle.std.specs.Prelude.{map};

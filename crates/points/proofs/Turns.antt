@@ -1,4 +1,4 @@
--- The fold from the i-th record on: what a turn of the loop does to it (made by tools/foldgen.py). Lists and records alone, nothing of the code.
+-- The fold from the i-th record on: what a turn of the loop does to it. Lists and records alone, nothing of the code.
 --     at_end       past the last record it is what it was given
 --     at_done      so it is where the state is done
 --     at_more      else it is the fold from the next record on, of what the step makes

@@ -1,4 +1,4 @@
-// The two forms by hand, in the same way as the calls of the C interface, whose names their lines have: a batch as a slice of point
+// The two forms over records, in the same way as the calls of the C interface, whose names their lines have: a batch as a slice of point
 // records, a system command with the clock lent as a record.
 use crate::command_calls::asdu_in;
 use crate::reply::print_reply;

@@ -1,4 +1,4 @@
-// Makes the calls of lists on the entries of the C interface and on the two forms by hand, and prints a line for each. Every
+// Makes the calls of lists on the entries of the C interface and on the two forms over records, and prints a line for each. Every
 // argument names a list, a script in data/ of the form that reference/script.py describes; a further list is a further file and word.
 #![tactic(auto)]
 

@@ -93,7 +93,7 @@ impl Machine {
         true
     }
 
-    /// A step that calls; the two forms by hand are calls like others here.
+    /// A step that calls; the two forms over records are calls like others here.
     fn call(&mut self, letter: u8) {
         let lent = self.lent;
         match letter {
