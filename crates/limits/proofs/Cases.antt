@@ -5,8 +5,9 @@ use Prim.Native.Nat.{ℕ}
 use Rattle.limits.specs.Test.{total}
 use Rattle.limits.specs.Share.{taken_in, let_go, admission_in}
 use Rattle.limits.specs.declared.share.Share.{Share}
-use Rattle.limits.specs.declared.share.Admission.{Admission}
-use Rattle.limits.specs.declared.share.Admission.TheVariants.{Admitted, CeilingReached, NoRoom}
+use Rattle.std.specs.Prelude.{Ok, Err}
+use Rattle.limits.specs.Outcome.{Outcome, done}
+use Rattle.limits.specs.declared.outcome.Refusal.TheVariants.{CeilingReached, NotAdmitted}
 
 -- One of two stations registers a point, or lets one go.
 pub data Move : Type 0 where
@@ -23,18 +24,17 @@ unfoldable pub shares : Two → List Share
 shares g = g.a ∷ g.b ∷ []
 
 -- what the share rule answers to a station
-unfoldable pub asked : ℕ → Two → Share → Admission
+unfoldable pub asked : ℕ → Two → Share → Outcome
 unfolding shares
 asked k g s = admission_in k (shares g) s
 
 -- a share takes the point in where it was admitted
-unfoldable pub after : Admission → Share → Share
-after Admitted s = taken_in s
-after CeilingReached s = s
-after NoRoom s = s
+unfoldable pub after : Outcome → Share → Share
+after (Ok u) s = taken_in s
+after (Err r) s = s
 
 -- what the points that a run of moves asks for are answered
-unfoldable pub play : ℕ → Two → List Move → List Admission
+unfoldable pub play : ℕ → Two → List Move → List Outcome
 play k g [] = []
 play k g (A_asks ∷ ms) = let x = asked k g g.a in x ∷ play k (record { a = after x g.a; b = g.b }) ms
 play k g (B_asks ∷ ms) = let x = asked k g g.b in x ∷ play k (record { a = g.a; b = after x g.b }) ms
@@ -47,6 +47,6 @@ paper = record { a = record { held = 0; reservation = 2; ceiling = 5 }; b = reco
 -- Case i: A gets 3 points, its fourth has no room (20), B still gets 2, B's third is above its ceiling (19).
 -- Case j: B lets one go: A's fourth still has no room, B's next is admitted.
 pub cases_i_and_j : play 5 paper (A_asks ∷ A_asks ∷ A_asks ∷ A_asks ∷ B_asks ∷ B_asks ∷ B_asks ∷ B_lets_go ∷ A_asks ∷ B_asks ∷ [])
-    ≡ Admitted ∷ Admitted ∷ Admitted ∷ NoRoom ∷ Admitted ∷ Admitted ∷ CeilingReached ∷ NoRoom ∷ Admitted ∷ []
+    ≡ done ∷ done ∷ done ∷ Err NotAdmitted ∷ done ∷ done ∷ Err CeilingReached ∷ Err NotAdmitted ∷ done ∷ []
 unfolding play asked after paper shares total
 cases_i_and_j = refl

@@ -11,8 +11,9 @@ use borrow.Author.Tests.{lt-ltb, le-ltb, ltb-true, ltb-false}
 use Rattle.limits.specs.Test.{total}
 use Rattle.limits.specs.Share.{held_of, unmet_of, taken_in, let_go, admission_of, admission_in, free_of, WithinCeilings, Sound}
 use Rattle.limits.specs.declared.share.Share.{Share}
-use Rattle.limits.specs.declared.share.Admission.{Admission}
-use Rattle.limits.specs.declared.share.Admission.TheVariants.{Admitted, CeilingReached, NoRoom}
+use Rattle.std.specs.Prelude.{Err}
+use Rattle.limits.specs.Outcome.{Outcome, done}
+use Rattle.limits.specs.declared.outcome.Refusal.TheVariants.{CeilingReached, NotAdmitted}
 use Rattle.limits.proofs.Tests.{total_append}
 
 -- ---- one share, whatever its numbers
@@ -60,7 +61,7 @@ let_go_by_one s = by_test (ltb 0 s.held) refl
 
 -- ---- the rule, exactly
 
--- Admitted: held < c, and held < r or free > unmet.
+-- done: held < c, and held < r or free > unmet.
 pub record HasRoom (s : Share) (free unmet : ℕ) : Type 0 where
   pub below_ceiling : s.held < s.ceiling
   pub some_room : (s.held < s.reservation) ⊎ (unmet < free)
@@ -73,30 +74,30 @@ pub record HasNoRoom (s : Share) (free unmet : ℕ) : Type 0 where
 
 module _ (s : Share) (free unmet : ℕ) where
   -- each answer, by the tests that lead to it
-  admits_reserved : s.held < s.ceiling → s.held < s.reservation → admission_of s free unmet ≡ Admitted
+  admits_reserved : s.held < s.ceiling → s.held < s.reservation → admission_of s free unmet ≡ done
   admits_reserved p q = simp (lt-ltb _ _ p, lt-ltb _ _ q)
 
-  admits_free : s.held < s.ceiling → s.reservation ≤ s.held → unmet < free → admission_of s free unmet ≡ Admitted
+  admits_free : s.held < s.ceiling → s.reservation ≤ s.held → unmet < free → admission_of s free unmet ≡ done
   admits_free p q r = simp (lt-ltb _ _ p, le-ltb _ _ q, lt-ltb _ _ r)
 
-  pub no_room : HasNoRoom s free unmet → admission_of s free unmet ≡ NoRoom
+  pub no_room : HasNoRoom s free unmet → admission_of s free unmet ≡ Err NotAdmitted
   no_room h = simp (lt-ltb _ _ h.below_ceiling, le-ltb _ _ h.met, le-ltb _ _ h.kept)
 
-  pub at_ceiling : s.ceiling ≤ s.held → admission_of s free unmet ≡ CeilingReached
+  pub at_ceiling : s.ceiling ≤ s.held → admission_of s free unmet ≡ Err CeilingReached
   at_ceiling p = simp (le-ltb _ _ p)
 
-  pub admitted : HasRoom s free unmet → admission_of s free unmet ≡ Admitted
+  pub admitted : HasRoom s free unmet → admission_of s free unmet ≡ done
   admitted h = ⊎_elim (admits_reserved h.below_ceiling) (λ r. by_test r (ltb s.held s.reservation) refl) h.some_room
     where
-      by_test : unmet < free → (b : Bool) → ltb s.held s.reservation ≡ b → admission_of s free unmet ≡ Admitted
+      by_test : unmet < free → (b : Bool) → ltb s.held s.reservation ≡ b → admission_of s free unmet ≡ done
       by_test r true e = admits_reserved h.below_ceiling (ltb-true _ _ e)
       by_test r false e = admits_free h.below_ceiling (ltb-false _ _ e) r
 
   -- what holds of the numbers, and the answer that goes with it
-  data Answered : Admission → Type 0 where
-    is_admitted : HasRoom s free unmet → Answered Admitted
-    is_full : s.ceiling ≤ s.held → Answered CeilingReached
-    is_kept : HasNoRoom s free unmet → Answered NoRoom
+  data Answered : Outcome → Type 0 where
+    is_admitted : HasRoom s free unmet → Answered done
+    is_full : s.ceiling ≤ s.held → Answered (Err CeilingReached)
+    is_kept : HasNoRoom s free unmet → Answered (Err NotAdmitted)
 
   answered : Answered (admission_of s free unmet)
   answered = by_tests (ltb s.held s.ceiling) refl (ltb s.held s.reservation) refl (ltb unmet free) refl
@@ -110,22 +111,22 @@ module _ (s : Share) (free unmet : ℕ) where
       by_tests false p d q e r = simp p (is_full (ltb-false _ _ p))
 
   -- the other direction: the answer tells the numbers
-  pub admitted_only : admission_of s free unmet ≡ Admitted → HasRoom s free unmet
+  pub admitted_only : admission_of s free unmet ≡ done → HasRoom s free unmet
   admitted_only e = told (subst Answered e answered)
     where
-      told : Answered Admitted → HasRoom s free unmet
+      told : Answered done → HasRoom s free unmet
       told (is_admitted h) = h
 
-  pub at_ceiling_only : admission_of s free unmet ≡ CeilingReached → s.ceiling ≤ s.held
+  pub at_ceiling_only : admission_of s free unmet ≡ Err CeilingReached → s.ceiling ≤ s.held
   at_ceiling_only e = told (subst Answered e answered)
     where
-      told : Answered CeilingReached → s.ceiling ≤ s.held
+      told : Answered (Err CeilingReached) → s.ceiling ≤ s.held
       told (is_full h) = h
 
-  pub no_room_only : admission_of s free unmet ≡ NoRoom → HasNoRoom s free unmet
+  pub no_room_only : admission_of s free unmet ≡ Err NotAdmitted → HasNoRoom s free unmet
   no_room_only e = told (subst Answered e answered)
     where
-      told : Answered NoRoom → HasNoRoom s free unmet
+      told : Answered (Err NotAdmitted) → HasNoRoom s free unmet
       told (is_kept h) = h
 
 -- ---- a gateway's shares
@@ -152,12 +153,12 @@ ceilings_with (x ∷ before) s t after c h = (c.0, ceilings_with before s t afte
 module _ (k : ℕ) (before : List Share) (s : Share) (after : List Share) (sound : Sound k (before ++ (s ∷ after))) where
   -- A station holding less than its reservation is admitted, and there is a place for it.
   pub below_reservation_admitted : s.reservation ≤ s.ceiling → s.held < s.reservation
-      → admission_in k (before ++ (s ∷ after)) s ≡ Admitted
+      → admission_in k (before ++ (s ∷ after)) s ≡ done
   below_reservation_admitted plan h =
       admitted s (free_of k (before ++ (s ∷ after))) (total unmet_of (before ++ (s ∷ after))) (record { below_ceiling = omega arith; some_room = inl h })
 
   -- Whoever is admitted finds a free place.
-  pub admitted_has_place : admission_in k (before ++ (s ∷ after)) s ≡ Admitted
+  pub admitted_has_place : admission_in k (before ++ (s ∷ after)) s ≡ done
       → total held_of (before ++ (s ∷ after)) < k
   admitted_has_place e =
       let u = sum_at_lem unmet_of before s after in
@@ -168,7 +169,7 @@ module _ (k : ℕ) (before : List Share) (s : Share) (after : List Share) (sound
       (admitted_only s (free_of k (before ++ (s ∷ after))) (total unmet_of (before ++ (s ∷ after))) e).some_room
 
   -- Taking in a point of an admitted station keeps the shares sound.
-  pub take_in_keeps_sound : admission_in k (before ++ (s ∷ after)) s ≡ Admitted
+  pub take_in_keeps_sound : admission_in k (before ++ (s ∷ after)) s ≡ done
       → Sound k (before ++ (taken_in s ∷ after))
   take_in_keeps_sound e =
       let room = admitted_only s (free_of k (before ++ (s ∷ after))) (total unmet_of (before ++ (s ∷ after))) e in

@@ -1,10 +1,10 @@
 -- Shares: what a station holds, what it may hold, what is kept free for it, and who is admitted.
 -- Document 01, 'Points, stations and shares'. No point stands here, only numbers.
-use Rattle.std.specs.Prelude.{ℕ, ◌+◌, ◌-◌, ◌≤◌, ◌||◌, List, [], ◌∷◌, ltb}
+use Rattle.std.specs.Prelude.{ℕ, ◌+◌, ◌-◌, ◌≤◌, ◌||◌, List, [], ◌∷◌, Err, ltb}
 use Rattle.limits.specs.Test.{pick, total}
 use Rattle.limits.specs.declared.share.Share.{Share}
-use Rattle.limits.specs.declared.share.Admission.{Admission}
-use Rattle.limits.specs.declared.share.Admission.TheVariants.{Admitted, CeilingReached, NoRoom}
+use Rattle.limits.specs.Outcome.{Outcome, done}
+use Rattle.limits.specs.declared.outcome.Refusal.TheVariants.{CeilingReached, NotAdmitted}
 
 abbrev pub held_of : Share → ℕ
 held_of s = s.held
@@ -22,11 +22,11 @@ abbrev pub let_go : Share → Share
 let_go s = record { held = pick (ltb 0 s.held) (s.held - 1) s.held; reservation = s.reservation; ceiling = s.ceiling }
 
 -- One more point is admitted exactly if held < c, and held < r or free > unmet.
-abbrev pub admission_of : Share → ℕ → ℕ → Admission
+abbrev pub admission_of : Share → ℕ → ℕ → Outcome
 admission_of s free unmet =
     pick (ltb s.held s.ceiling)
-    (pick (ltb s.held s.reservation || ltb unmet free) Admitted NoRoom)
-    CeilingReached
+    (pick (ltb s.held s.reservation || ltb unmet free) done (Err NotAdmitted))
+    (Err CeilingReached)
 
 -- ---- a gateway's shares
 
@@ -35,7 +35,7 @@ abbrev pub free_of : ℕ → List Share → ℕ
 free_of k ss = k - total held_of ss
 
 -- What the rule answers to a station s of a gateway with capacity K and these shares.
-abbrev pub admission_in : ℕ → List Share → Share → Admission
+abbrev pub admission_in : ℕ → List Share → Share → Outcome
 admission_in k ss s = admission_of s (free_of k ss) (total unmet_of ss)
 
 -- No station is above its ceiling.

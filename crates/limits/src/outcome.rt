@@ -1,10 +1,10 @@
-// What a call gives back: one name for each number of document 01, 'Numbers given back'.
+// What a call gives back: nothing more, or a refusal, each with its number of document 01, 'Numbers given back'.
 ghost use Rattle.std.specs.Prelude.{◌≡◌};
-ghost use Rattle.limits.specs.Outcome.{number_of, is_done};
+ghost use Rattle.limits.specs.Outcome.{refusal_number, number_of};
 
-#[derive(Clone, Copy)]
-pub enum Outcome {
-    Done,
+// Why a call is refused, or answered by nothing.
+#[derive(Clone, Copy, Debug, PartialEq, Eq)]
+pub enum Refusal {
     Silent,
     Malformed,
     TableNotWellFormed,
@@ -24,37 +24,39 @@ pub enum Outcome {
     NotAdmitted,
 }
 
-impl Outcome {
+impl Refusal {
     // Document 01's number.
     pub fn number(self) -> u32
-        ensures { result ≡ number_of self }
+        ensures { result ≡ refusal_number self }
     {
         match self {
-            Outcome::Done => 0,
-            Outcome::Silent => 1,
-            Outcome::Malformed => 2,
-            Outcome::TableNotWellFormed => 3,
-            Outcome::AnswerShort => 4,
-            Outcome::SpontaneousShort => 5,
-            Outcome::BadProposal => 6,
-            Outcome::InvalidPlan => 10,
-            Outcome::UnknownTypeOrAddress => 11,
-            Outcome::StationNotPlanned => 12,
-            Outcome::GroupOutOfRange => 13,
-            Outcome::CounterGroupOutOfRange => 14,
-            Outcome::NotCounter => 15,
-            Outcome::AddressTwice => 16,
-            Outcome::AlreadyRegistered => 17,
-            Outcome::NotRegistered => 18,
-            Outcome::CeilingReached => 19,
-            Outcome::NotAdmitted => 20,
+            Refusal::Silent => 1,
+            Refusal::Malformed => 2,
+            Refusal::TableNotWellFormed => 3,
+            Refusal::AnswerShort => 4,
+            Refusal::SpontaneousShort => 5,
+            Refusal::BadProposal => 6,
+            Refusal::InvalidPlan => 10,
+            Refusal::UnknownTypeOrAddress => 11,
+            Refusal::StationNotPlanned => 12,
+            Refusal::GroupOutOfRange => 13,
+            Refusal::CounterGroupOutOfRange => 14,
+            Refusal::NotCounter => 15,
+            Refusal::AddressTwice => 16,
+            Refusal::AlreadyRegistered => 17,
+            Refusal::NotRegistered => 18,
+            Refusal::CeilingReached => 19,
+            Refusal::NotAdmitted => 20,
         }
     }
+}
 
-    // May the call write?
-    pub fn is_done(self) -> bool
-        ensures { result ≡ is_done self }
-    {
-        self.number() == 0
+// Document 01's number of an outcome: 0 where the call was done.
+pub fn number_of(outcome: Result<(), Refusal>) -> u32
+    ensures { result ≡ number_of outcome }
+{
+    match outcome {
+        Ok(_) => 0,
+        Err(refusal) => refusal.number(),
     }
 }

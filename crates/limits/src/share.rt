@@ -2,20 +2,14 @@
 ghost use Rattle.std.specs.Prelude.{◌≡◌};
 ghost use Rattle.limits.specs.Share.{taken_in, let_go, unmet_of, admission_of};
 
+use crate::outcome::Refusal;
+
 // How many points a station holds, how many are kept for it, and how many it may hold.
 #[derive(Clone, Copy)]
 pub struct Share {
     pub held: usize,
     pub reservation: usize,
     pub ceiling: usize,
-}
-
-// What the share rule answers to one more point.
-#[derive(Clone, Copy)]
-pub enum Admission {
-    Admitted,
-    CeilingReached,
-    NoRoom,
 }
 
 impl Share {
@@ -57,19 +51,19 @@ impl Share {
         0
     }
 
-    // May one more point of this station come in, with `free` places left and `unmet` kept for all stations?
-    pub fn admission(self, free: usize, unmet: usize) -> Admission
+    // The share rule: one more point of this station may come in, with `free` places left and `unmet` kept for all stations, or has no room.
+    pub fn admission(self, free: usize, unmet: usize) -> Result<(), Refusal>
         ensures { result ≡ admission_of self free unmet }
     {
         if self.held >= self.ceiling {
-            return Admission::CeilingReached;
+            return Err(Refusal::CeilingReached);
         }
         if self.held < self.reservation {
-            return Admission::Admitted;
+            return Ok(());
         }
         if unmet < free {
-            return Admission::Admitted;
+            return Ok(());
         }
-        Admission::NoRoom
+        Err(Refusal::NotAdmitted)
     }
 }
