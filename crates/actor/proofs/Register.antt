@@ -6,9 +6,7 @@ use mathlib.Core.Option.{none, some}
 use Prim.Native.Nat.{ℕ, ◌+◌, ◌*◌, ◌≤◌, ◌<◌}
 use native.Mathlib.Omega.{arith}
 use Rattle.limits.specs.Test.{total}
-use Rattle.limits.specs.Outcome.{is_done}
-use Rattle.limits.specs.declared.outcome.Outcome.{Outcome}
-use Rattle.limits.specs.declared.outcome.Outcome.TheVariants.{Done}
+use Rattle.limits.specs.Outcome.{Outcome, done, is_done}
 use Rattle.limits.proofs.Outcomes.{not_both, done_is, first_done}
 use Rattle.octets.specs.Number.{Octets}
 use Rattle.model.specs.declared.Request.{Request}
@@ -108,7 +106,7 @@ module _ (m : List ℕ) (o : Octets m) (w : well_formed m ≡ true) (q : Request
     register_room d r = refused_by (registering q) m w _ (outcome_law ∙ simp d) refl r
 
     -- whoever has room finds a free place
-    room_place : room_at m i ≡ Done → total held (table_of m).stations < (table_of m).capacity
+    room_place : room_at m i ≡ done → total held (table_of m).stations < (table_of m).capacity
     unfolding room_fault
     room_place r =
         let z = seat_law m q.ca i first h o w e in
@@ -122,7 +120,7 @@ module _ (m : List ℕ) (o : Octets m) (w : well_formed m ≡ true) (q : Request
     unfolding seat_fault
     goes d = by_spot (find_at m first h q.ioa) refl (first_done (own_fault true q) (spot_fault (find_at m first h q.ioa)) (done_is (seat_fault q (find_at m first h q.ioa)) d)).1
       where
-        by_spot : (x : Spot) → find_at m first h q.ioa ≡ x → spot_fault x ≡ Done
+        by_spot : (x : Spot) → find_at m first h q.ioa ≡ x → spot_fault x ≡ done
             → Standing (table_of m).stations q.ca (point_of q).ioa (seat_law m q.ca i first h o w e).seat.s (seat_law m q.ca i first h o w e).seat.found i h (offset_of x)
         by_spot (Held at) p f = not_both (ap is_done f)
         by_spot (Missing at) p f =
@@ -145,7 +143,7 @@ module _ (m : List ℕ) (o : Octets m) (w : well_formed m ≡ true) (q : Request
 
     -- Done: the point is in its place.
     pub register_done : is_done (seat_fault q (find_at m first h q.ioa)) ≡ true → is_done (room_at m i) ≡ true
-        → Replies (registering q) m (placeless Done) (placed m q.ca (point_of q) i h (offset_of (find_at m first h q.ioa)))
+        → Replies (registering q) m (placeless done) (placed m q.ca (point_of q) i h (offset_of (find_at m first h q.ioa)))
     unfolding registering
     register_done d r =
         let z = seat_law m q.ca i first h o w e in

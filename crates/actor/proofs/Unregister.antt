@@ -3,7 +3,9 @@ use mathlib.Core.Path.{◌≡◌, refl, sym, ap, ◌∙◌}
 use mathlib.Core.List.{List}
 use mathlib.Core.Bool.{true, false}
 use Prim.Native.Nat.{ℕ}
-use Rattle.limits.specs.declared.outcome.Outcome.TheVariants.{Done, NotRegistered, TableNotWellFormed, StationNotPlanned}
+use Rattle.std.specs.Prelude.{Err}
+use Rattle.limits.specs.Outcome.{done}
+use Rattle.limits.specs.declared.outcome.Refusal.TheVariants.{TableNotWellFormed, StationNotPlanned, NotRegistered}
 use Rattle.octets.specs.Number.{Octets}
 use Rattle.layout.specs.Layout.{points_in}
 use Rattle.table.specs.Memory.{table_of, well_formed}
@@ -25,23 +27,23 @@ use Rattle.actor.specs.Actor.{station_share_at}
 use Rattle.actor.proofs.Rooms.{station_share, free_is, unmet_is}
 
 module _ (m : List ℕ) (w : well_formed m ≡ true) (ca ioa : ℕ) where
-  not_registered : is_registered ioa (station_of ca (table_of m).stations) ≡ false → unregistering ca ioa (table_of m) ≡ refused NotRegistered 0 (table_of m)
+  not_registered : is_registered ioa (station_of ca (table_of m).stations) ≡ false → unregistering ca ioa (table_of m) ≡ refused (Err NotRegistered) 0 (table_of m)
   unfolding unregistering
   not_registered e = simp e
 
-  out_refused : is_registered ioa (station_of ca (table_of m).stations) ≡ false → Replies (unregistering ca ioa) m (placeless NotRegistered) m
+  out_refused : is_registered ioa (station_of ca (table_of m).stations) ≡ false → Replies (unregistering ca ioa) m (placeless (Err NotRegistered)) m
   out_refused e =
       let u = not_registered e in
-      refused_by (unregistering ca ioa) m w NotRegistered (ap (λ (x : Effect). x.outcome) u) (ap (λ (x : Effect). x.place) u) refl
+      refused_by (unregistering ca ioa) m w (Err NotRegistered) (ap (λ (x : Effect). x.outcome) u) (ap (λ (x : Effect). x.place) u) refl
 
   -- The plan has no such station: 18.
-  pub out_absent : seat_at m ca ≡ NotPlanned → Replies (unregistering ca ioa) m (placeless NotRegistered) m
+  pub out_absent : seat_at m ca ≡ NotPlanned → Replies (unregistering ca ioa) m (placeless (Err NotRegistered)) m
   unfolding is_registered
   out_absent e = out_refused (ap (is_registered ioa) (absent_law m ca e))
 
   module _ (o : Octets m) (i first h : ℕ) (e : seat_at m ca ≡ Here i first h) where
     -- The station has no such point: 18.
-    pub out_missing : (at : ℕ) → find_at m first h ioa ≡ Missing at → Replies (unregistering ca ioa) m (placeless NotRegistered) m
+    pub out_missing : (at : ℕ) → find_at m first h ioa ≡ Missing at → Replies (unregistering ca ioa) m (placeless (Err NotRegistered)) m
     unfolding is_registered
     out_missing at p =
         let z = seat_law m ca i first h o w e in
@@ -49,7 +51,7 @@ module _ (m : List ℕ) (w : well_formed m ≡ true) (ca ioa : ℕ) where
         out_refused (ap (is_registered ioa) z.seat.is_station ∙ k)
 
     -- Done: the point is gone.
-    pub out_done : (at : ℕ) → find_at m first h ioa ≡ Held at → Replies (unregistering ca ioa) m (placeless Done) (taken_out m i h at)
+    pub out_done : (at : ℕ) → find_at m first h ioa ≡ Held at → Replies (unregistering ca ioa) m (placeless done) (taken_out m i h at)
     unfolding unregistering is_registered
     out_done at p =
         let z = take_out_law m ca ioa i first h at o w e p in
@@ -57,7 +59,7 @@ module _ (m : List ℕ) (w : well_formed m ≡ true) (ca ioa : ℕ) where
         done_by (unregistering ca ioa) m w 0 _ (simp k) (simp k) (z.memory ∙ sym (simp k))
 
 -- Done: all points are gone, and their number is given back.
-pub all_done : (m : List ℕ) → Octets m → well_formed m ≡ true → Replies unregistering_all m (record { outcome = Done; place = points_in m }) (all_taken_out m)
+pub all_done : (m : List ℕ) → Octets m → well_formed m ≡ true → Replies unregistering_all m (record { outcome = done; place = points_in m }) (all_taken_out m)
 unfolding unregistering_all
 all_done m o w =
     let z = take_all_out_law m o w in
@@ -65,12 +67,12 @@ all_done m o w =
 
 -- ---- a station's share
 
-pub share_no_table : (m : List ℕ) (ca : ℕ) → well_formed m ≡ false → no_share TableNotWellFormed ≡ share_on ca m
+pub share_no_table : (m : List ℕ) (ca : ℕ) → well_formed m ≡ false → no_share (Err TableNotWellFormed) ≡ share_on ca m
 unfolding share_from
 share_no_table m ca w = sym (ap (share_from ca) (parse_none m w))
 
 module _ (m : List ℕ) (w : well_formed m ≡ true) (ca : ℕ) where
-  pub share_absent : seat_at m ca ≡ NotPlanned → no_share StationNotPlanned ≡ share_on ca m
+  pub share_absent : seat_at m ca ≡ NotPlanned → no_share (Err StationNotPlanned) ≡ share_on ca m
   unfolding share_from share_in
   share_absent e = sym (ap (share_from ca) (parse_some m w) ∙ ap (share_in (table_of m)) (absent_law m ca e))
 
@@ -81,5 +83,5 @@ module _ (m : List ℕ) (w : well_formed m ≡ true) (ca : ℕ) where
       let s = station_share m o w ca i first h e in
       let f = free_is m o w ca i first h e in
       let u = unmet_is m o w ca i first h e in
-      (λ j. record { outcome = Done; reservation = (s j).reservation; ceiling = (s j).ceiling; held = (s j).held; free = f j; unmet = u j })
+      (λ j. record { outcome = done; reservation = (s j).reservation; ceiling = (s j).ceiling; held = (s j).held; free = f j; unmet = u j })
       ∙ sym (ap (share_from ca) (parse_some m w) ∙ ap (share_in (table_of m)) z.seat.is_station)

@@ -1,9 +1,9 @@
 -- ---- as the code reads: nobody need believe what follows, the laws in proofs/ tie it to the effects of `registry`
-use Rattle.std.specs.Prelude.{ℕ, ◌+◌, ◌*◌, ◌-◌, ◌≤◌, ◌<◌, List, true, length}
+use Rattle.std.specs.Prelude.{ℕ, ◌+◌, ◌*◌, ◌-◌, ◌≤◌, ◌<◌, List, true, length, Err}
 use Rattle.limits.specs.Share.{admission_of}
 use Rattle.limits.specs.declared.share.Share.{Share}
-use Rattle.limits.specs.declared.outcome.Outcome.{Outcome}
-use Rattle.limits.specs.declared.outcome.Outcome.TheVariants.{Done, AlreadyRegistered}
+use Rattle.limits.specs.Outcome.{Outcome, done}
+use Rattle.limits.specs.declared.outcome.Refusal.TheVariants.{AlreadyRegistered}
 use Rattle.layout.specs.Layout.{station_size, most_stations, capacity_in, stations_in, points_in, stations_from, size_in}
 use Rattle.model.specs.declared.Request.{Request}
 use Rattle.model.specs.Request.{own_fault}
@@ -36,8 +36,8 @@ room_at m i = admission_outcome (admission_of (share_here m i) (free_in m) (unme
 
 -- 17 where a point stands at the address
 abbrev pub spot_fault : Spot → Outcome
-spot_fault (Held at) = AlreadyRegistered
-spot_fault (Missing at) = Done
+spot_fault (Held at) = (Err AlreadyRegistered)
+spot_fault (Missing at) = done
 
 -- where a point stands or would go
 abbrev pub offset_of : Spot → ℕ
@@ -52,7 +52,7 @@ seat_fault q spot = first_fault (own_fault true q) (spot_fault spot)
 unfoldable pub station_share_at : List ℕ → ℕ → StationShare
 station_share_at m i =
     record {
-      outcome = Done;
+      outcome = done;
       reservation = (share_here m i).reservation;
       ceiling = (share_here m i).ceiling;
       held = (share_here m i).held;

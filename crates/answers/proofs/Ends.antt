@@ -10,9 +10,9 @@ use native.Mathlib.Nat.{zero-add}
 use lib.ListN.{length, drop}
 use borrow.Author.Tests.{le-leb, lt-leb, leb-true, leb-false}
 use Rattle.limits.specs.Test.{pick}
-use Rattle.limits.specs.Outcome.{is_done}
-use Rattle.limits.specs.declared.outcome.Outcome.{Outcome}
-use Rattle.limits.specs.declared.outcome.Outcome.TheVariants.{Done, TableNotWellFormed, AnswerShort}
+use Rattle.std.specs.Prelude.{Err}
+use Rattle.limits.specs.Outcome.{Outcome, done, is_done}
+use Rattle.limits.specs.declared.outcome.Refusal.TheVariants.{TableNotWellFormed, AnswerShort}
 use Rattle.octets.specs.Number.{Octets}
 use Rattle.octets.specs.Over.{over}
 use Rattle.asdu.specs.Header.{Asdu, asdu_octets, wire}
@@ -34,7 +34,7 @@ front_is m xs = ap (λ (n : ℕ). wire xs ++ drop n m) (zero-add (size xs))
 
 module _ (X : List Asdu) (m : List ℕ) where
   -- It does not fit.
-  pub sends_nothing : length m < size X → Sends X m (nothing AnswerShort) m
+  pub sends_nothing : length m < size X → Sends X m (nothing (Err AnswerShort)) m
   unfolding sent left
   sends_nothing h = record { answers = sym (simp (lt-leb _ _ h)); leaves = sym (simp (lt-leb _ _ h)) }
 
@@ -45,7 +45,7 @@ module _ (X : List Asdu) (m : List ℕ) where
 
 -- The same of one ASDU.
 module _ (a : Asdu) (m : List ℕ) where
-  pub one_nothing : length m < length (asdu_octets a) → Sends (a ∷ []) m (nothing AnswerShort) m
+  pub one_nothing : length m < length (asdu_octets a) → Sends (a ∷ []) m (nothing (Err AnswerShort)) m
   one_nothing h = sends_nothing (a ∷ []) m (rw (wire_one a) h)
 
   pub one_all : (n : ℕ) (m' : List ℕ) → length (asdu_octets a) ≤ length m → n ≡ length (asdu_octets a) → m' ≡ over m 0 (asdu_octets a) → Sends (a ∷ []) m (given n) m'
@@ -58,7 +58,7 @@ sends_along X Y m m' r e s = record { answers = s.answers ∙ ap (λ (Z : List A
 -- ---- the ways out of an entry
 
 -- No table: 3.
-pub ends_no_table : (f : Table → Said) (l : Lent) → well_formed l.table ≡ false → Leaves as_it_is f l (nothing TableNotWellFormed) l
+pub ends_no_table : (f : Table → Said) (l : Lent) → well_formed l.table ≡ false → Leaves as_it_is f l (nothing (Err TableNotWellFormed)) l
 unfolding answered_from lent_from
 ends_no_table f l w =
     let p : parse l.table ≡ none = parse_none l.table w in
@@ -82,19 +82,19 @@ module _ (f : Table → Said) (l : Lent) (w : well_formed l.table ≡ true) wher
   ends_refused o e d = ends_nothing o (let d' : is_done (f (table_of l.table)).outcome ≡ false = ap is_done e ∙ d in simp d' e) d
 
   -- An answer that does not fit: 4.
-  pub ends_short : (f (table_of l.table)).outcome ≡ Done → (f (table_of l.table)).told ≡ [] → length l.answer < size (f (table_of l.table)).answer
-      → Leaves as_it_is f l (nothing AnswerShort) l
+  pub ends_short : (f (table_of l.table)).outcome ≡ done → (f (table_of l.table)).told ≡ [] → length l.answer < size (f (table_of l.table)).answer
+      → Leaves as_it_is f l (nothing (Err AnswerShort)) l
   unfolding outcome_with wire joined
-  ends_short e q h = ends_nothing AnswerShort (simp (e, q, le-leb 0 (length l.spontaneous) (omega arith), lt-leb _ _ h)) refl
+  ends_short e q h = ends_nothing (Err AnswerShort) (simp (e, q, le-leb 0 (length l.spontaneous) (omega arith), lt-leb _ _ h)) refl
 
   -- the outcome of an answer that fits
-  fits_is : (f (table_of l.table)).outcome ≡ Done → (f (table_of l.table)).told ≡ [] → size (f (table_of l.table)).answer ≤ length l.answer
-      → outcome_with (f (table_of l.table)) l ≡ Done
+  fits_is : (f (table_of l.table)).outcome ≡ done → (f (table_of l.table)).told ≡ [] → size (f (table_of l.table)).answer ≤ length l.answer
+      → outcome_with (f (table_of l.table)) l ≡ done
   unfolding outcome_with wire joined
   fits_is e q h = simp (e, q, le-leb 0 (length l.spontaneous) (omega arith), le-leb _ _ h)
 
   -- An answer that fits, n octets of it, from a command that tells nothing.
-  pub ends_done : (n : ℕ) (l' : Lent) → (f (table_of l.table)).outcome ≡ Done → (f (table_of l.table)).told ≡ []
+  pub ends_done : (n : ℕ) (l' : Lent) → (f (table_of l.table)).outcome ≡ done → (f (table_of l.table)).told ≡ []
       → n ≡ size (f (table_of l.table)).answer → n ≤ length l.answer
       → l' ≡ record {
         table = holding l.table (table_of l.table) (f (table_of l.table)).after;
@@ -102,17 +102,17 @@ module _ (f : Table → Said) (l : Lent) (w : well_formed l.table ≡ true) wher
         answer = fronted (f (table_of l.table)).answer l.answer;
         spontaneous = l.spontaneous;
       }
-      → Leaves as_it_is f l (record { outcome = Done; octets = n; spontaneous = 0 }) l'
+      → Leaves as_it_is f l (record { outcome = done; octets = n; spontaneous = 0 }) l'
   unfolding answered_from lent_from wire joined
   ends_done n l' e q k h s =
-      let d : outcome_with (f (table_of l.table)) l ≡ Done = fits_is e q (omega arith) in
+      let d : outcome_with (f (table_of l.table)) l ≡ done = fits_is e q (omega arith) in
       record {
-        answers = sym (ap (answered_from f l) is_parsed ∙ simp (d, q) (λ j. record { outcome = Done; octets = sym k j; spontaneous = 0 }));
+        answers = sym (ap (answered_from f l) is_parsed ∙ simp (d, q) (λ j. record { outcome = done; octets = sym k j; spontaneous = 0 }));
         leaves = s ∙ sym (ap (lent_from f l) is_parsed ∙ simp (d, q));
       }
 
   -- An answer X that was written whole or not at all; the table and the clock change only if it was.
-  pub ends_sent : (X : List Asdu) → (f (table_of l.table)).outcome ≡ Done → (f (table_of l.table)).told ≡ [] → (f (table_of l.table)).answer ≡ X
+  pub ends_sent : (X : List Asdu) → (f (table_of l.table)).outcome ≡ done → (f (table_of l.table)).told ≡ [] → (f (table_of l.table)).answer ≡ X
       → (r : Answered) (table clock answer : List ℕ) → Sends X l.answer r answer
       → table ≡ pick (is_done r.outcome) (holding l.table (table_of l.table) (f (table_of l.table)).after) l.table
       → clock ≡ pick (is_done r.outcome) (f (table_of l.table)).clock l.clock
@@ -120,7 +120,7 @@ module _ (f : Table → Said) (l : Lent) (w : well_formed l.table ≡ true) wher
   unfolding sent left
   ends_sent X d q x r table clock answer s et ec = by_test (fits X l.answer) refl s.answers s.leaves
     where
-      by_test : (b : Bool) → fits X l.answer ≡ b → r ≡ pick b (given (size X)) (nothing AnswerShort) → answer ≡ pick b (fronted X l.answer) l.answer
+      by_test : (b : Bool) → fits X l.answer ≡ b → r ≡ pick b (given (size X)) (nothing (Err AnswerShort)) → answer ≡ pick b (fronted X l.answer) l.answer
           → Leaves as_it_is f l r (lent table clock answer l.spontaneous)
       by_test true e er ea =
           let h : size X ≤ length l.answer = leb-true _ _ e in

@@ -8,7 +8,10 @@ use native.Mathlib.Omega.{arith}
 use lib.ListN.{length}
 use lib.Dec.{eqb}
 use Rattle.limits.specs.Test.{pick}
+use Rattle.std.specs.Prelude.{Ok, Err}
 use Rattle.limits.specs.Outcome.{is_done}
+use Rattle.asdu.specs.Command.{Reading}
+use Rattle.asdu.specs.declared.command.Unread.TheVariants.{LengthOutOfRange, TypeNotServed, ObjectsNotWhole}
 use Rattle.model.specs.declared.Point.{Point}
 use Rattle.table.specs.Table.{Station, Table, good, rising}
 use Rattle.table.specs.Settings.{limit_of}
@@ -19,8 +22,6 @@ use Rattle.registry.specs.History.{holding_of, Quiet}
 use Rattle.registry.proofs.Gentle.{Gentle, gentle_here, gentle_everywhere}
 use Rattle.asdu.specs.Header.{global_address}
 use Rattle.asdu.specs.declared.command.Command.{Command}
-use Rattle.asdu.specs.declared.command.Reading.{Reading}
-use Rattle.asdu.specs.declared.command.Reading.TheVariants.{LengthOutOfRange, TypeNotServed, ObjectsNotWhole, Parsed}
 use Rattle.report.specs.declared.Selection.{Selection}
 use Rattle.report.specs.Order.{points_of}
 use Rattle.answers.specs.declared.Choice.{Choice}
@@ -116,10 +117,10 @@ command_still clock m c t =
 
 system_still : (clock m : List ℕ) (r : Reading) (t : Table) → Still t (system_from clock m r t).after
 unfolding system_from
-system_still clock m LengthOutOfRange t = still_same t
-system_still clock m TypeNotServed t = still_same t
-system_still clock m ObjectsNotWhole t = still_same t
-system_still clock m (Parsed c) t = pick_still t (is_silent c m) _ _ (still_same t) (command_still clock m c t)
+system_still clock m (Err LengthOutOfRange) t = still_same t
+system_still clock m (Err TypeNotServed) t = still_same t
+system_still clock m (Err ObjectsNotWhole) t = still_same t
+system_still clock m (Ok c) t = pick_still t (is_silent c m) _ _ (still_same t) (command_still clock m c t)
 
 -- Every system command is quiet.
 pub system_quiet : (m : List ℕ) (l : Lent) → Quiet (effect_in (system_said l.clock m) l)
@@ -188,10 +189,10 @@ read_whole p w = by_test p.negative
 
 process_still : (clock : List ℕ) (p : Proposal) → AllWhole p.updates → (r : Reading) (t : Table) → Still t (process_from clock p r t).after
 unfolding process_from
-process_still clock p w LengthOutOfRange t = still_same t
-process_still clock p w TypeNotServed t = still_same t
-process_still clock p w ObjectsNotWhole t = still_same t
-process_still clock p w (Parsed c) t =
+process_still clock p w (Err LengthOutOfRange) t = still_same t
+process_still clock p w (Err TypeNotServed) t = still_same t
+process_still clock p w (Err ObjectsNotWhole) t = still_same t
+process_still clock p w (Ok c) t =
     pick_still t (process_cause_taken c.cause) _ _
     (pick_still t (proposal_ok (limit_of t) p.kind p.objects) _ _ (updates_still t (read_updates p) (read_whole p w)) (still_same t))
     (still_same t)

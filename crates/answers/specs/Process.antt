@@ -1,9 +1,12 @@
 -- What a process command says, given a caller's proposal. Document 01, 'What each command says'; the Rust's `commands.rs`.
-use Rattle.std.specs.Prelude.{ℕ, zero, suc, ◌+◌, ◌-◌, ◌/◌, ◌%◌, List, [], ◌∷◌, ◌++◌, map, Bool, ◌||◌, length, get_or, leb, eqb}
+use Rattle.std.specs.Prelude.{ℕ, zero, suc, ◌+◌, ◌-◌, ◌/◌, ◌%◌, List, [], ◌∷◌, ◌++◌, map, Bool, ◌||◌, length, get_or, leb, eqb, Ok, Err}
 use Rattle.std.proofs.Math.Option.{Option, none, some}
 use Rattle.limits.specs.Test.{◌&◌, pick}
 use Rattle.limits.specs.Size.{class_of, element_octets, point_octets, control_octets, header_octets, address_octets}
-use Rattle.limits.specs.declared.outcome.Outcome.TheVariants.{Done, Silent, BadProposal}
+use Rattle.limits.specs.Outcome.{done}
+use Rattle.limits.specs.declared.outcome.Refusal.TheVariants.{Silent, BadProposal}
+use Rattle.asdu.specs.Command.{Reading, read_as, outcome_of, is_process}
+use Rattle.asdu.specs.declared.command.Unread.TheVariants.{LengthOutOfRange, TypeNotServed, ObjectsNotWhole}
 use Rattle.octets.specs.Number.{two, three, twelve}
 use Rattle.model.specs.declared.Point.{Point}
 use Rattle.model.specs.Place.{with_value}
@@ -14,9 +17,6 @@ use Rattle.table.specs.Change.{changed, point_in}
 use Rattle.asdu.specs.Cause.{request, activation, activation_confirmation, deactivation, deactivation_confirmation}
 use Rattle.asdu.specs.declared.command.Command.{Command}
 use Rattle.asdu.specs.declared.command.Entry.TheVariants.{ProcessCommands}
-use Rattle.asdu.specs.declared.command.Reading.{Reading}
-use Rattle.asdu.specs.declared.command.Reading.TheVariants.{LengthOutOfRange, TypeNotServed, ObjectsNotWhole, Parsed}
-use Rattle.asdu.specs.Command.{read_as, outcome_of, is_process}
 use Rattle.asdu.specs.Header.{Asdu}
 use Rattle.asdu.specs.Confirmation.{reply, objects_of}
 use Rattle.report.specs.Order.{own_points}
@@ -132,15 +132,15 @@ abbrev pub process_reply : Command → Proposal → Asdu
 process_reply c p = reply c p.kind (confirmation_cause c.cause) p.negative (objects_of (element_octets p.kind) p.objects)
 
 unfoldable pub process_from : List ℕ → Proposal → Reading → Table → Said
-process_from clock p LengthOutOfRange t = unsaid (outcome_of LengthOutOfRange) t clock
-process_from clock p TypeNotServed t = unsaid (outcome_of TypeNotServed) t clock
-process_from clock p ObjectsNotWhole t = unsaid (outcome_of ObjectsNotWhole) t clock
-process_from clock p (Parsed c) t =
+process_from clock p (Err LengthOutOfRange) t = unsaid (outcome_of (Err LengthOutOfRange)) t clock
+process_from clock p (Err TypeNotServed) t = unsaid (outcome_of (Err TypeNotServed)) t clock
+process_from clock p (Err ObjectsNotWhole) t = unsaid (outcome_of (Err ObjectsNotWhole)) t clock
+process_from clock p (Ok c) t =
     pick (process_cause_taken c.cause)
     (pick (proposal_ok (limit_of t) p.kind p.objects)
-    (record { outcome = Done; answer = process_reply c p ∷ []; told = told_by t (read_updates p); after = table_after t (read_updates p); clock = clock })
-    (unsaid BadProposal t clock))
-    (unsaid Silent t clock)
+    (record { outcome = done; answer = process_reply c p ∷ []; told = told_by t (read_updates p); after = table_after t (read_updates p); clock = clock })
+    (unsaid (Err BadProposal) t clock))
+    (unsaid (Err Silent) t clock)
 
 -- What a process command says to a table; the clock stays.
 abbrev pub process_said : List ℕ → Proposal → List ℕ → Table → Said

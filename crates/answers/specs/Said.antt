@@ -1,11 +1,10 @@
 -- What a command says to a table, and what that makes of the memories that are lent to the call: the common last step of every command.
 -- Document 01, 'Numbers given back': every number but 0 writes nothing anywhere; with 0, memory past the reported octets stays as it was.
-use Rattle.std.specs.Prelude.{ℕ, ◌≡◌, List, [], ◌++◌, Bool, length, drop, leb}
+use Rattle.std.specs.Prelude.{ℕ, ◌≡◌, List, [], ◌++◌, Bool, length, drop, leb, Err}
 use Rattle.std.proofs.Math.Option.{Option, none, some}
 use Rattle.limits.specs.Test.{pick}
-use Rattle.limits.specs.Outcome.{is_done}
-use Rattle.limits.specs.declared.outcome.Outcome.{Outcome}
-use Rattle.limits.specs.declared.outcome.Outcome.TheVariants.{Done, TableNotWellFormed, AnswerShort, SpontaneousShort}
+use Rattle.limits.specs.Outcome.{Outcome, done, is_done}
+use Rattle.limits.specs.declared.outcome.Refusal.TheVariants.{TableNotWellFormed, AnswerShort, SpontaneousShort}
 use Rattle.asdu.specs.Header.{Asdu, wire}
 use Rattle.table.specs.Table.{Table}
 use Rattle.table.specs.Memory.{parse, table_of}
@@ -26,7 +25,7 @@ unsaid o t clock = record { outcome = o; answer = []; told = []; after = t; cloc
 
 -- An answer that changes nothing.
 abbrev pub says : List Asdu → Table → List ℕ → Said
-says answer t clock = record { outcome = Done; answer = answer; told = []; after = t; clock = clock }
+says answer t clock = record { outcome = done; answer = answer; told = []; after = t; clock = clock }
 
 -- The memories that are lent to a call; one that is not lent is empty.
 pub record Lent : Type 0 where
@@ -56,10 +55,10 @@ fits asdus memory = leb (size asdus) (length memory)
 unfoldable pub outcome_with : Said → Lent → Outcome
 outcome_with s l =
     first_fault s.outcome
-    (first_fault (pick (fits s.told l.spontaneous) Done SpontaneousShort) (pick (fits s.answer l.answer) Done AnswerShort))
+    (first_fault (pick (fits s.told l.spontaneous) done (Err SpontaneousShort)) (pick (fits s.answer l.answer) done (Err AnswerShort)))
 
 unfoldable pub answered_from : (Table → Said) → Lent → Option Table → Answered
-answered_from f l none = record { outcome = TableNotWellFormed; octets = 0; spontaneous = 0 }
+answered_from f l none = record { outcome = (Err TableNotWellFormed); octets = 0; spontaneous = 0 }
 answered_from f l (some t) =
     record {
       outcome = outcome_with (f t) l;
@@ -104,11 +103,11 @@ nothing o = record { outcome = o; octets = 0; spontaneous = 0 }
 
 -- An answer of so many octets.
 abbrev pub given : ℕ → Answered
-given n = record { outcome = Done; octets = n; spontaneous = 0 }
+given n = record { outcome = done; octets = n; spontaneous = 0 }
 
 -- What comes back.
 unfoldable pub sent : List Asdu → List ℕ → Answered
-sent asdus memory = pick (fits asdus memory) (given (size asdus)) (nothing AnswerShort)
+sent asdus memory = pick (fits asdus memory) (given (size asdus)) (nothing (Err AnswerShort))
 
 -- What the answer memory holds.
 unfoldable pub left : List Asdu → List ℕ → List ℕ

@@ -1,10 +1,13 @@
 -- What each system command says: interrogation, counters, read, clock, tests, reset process.
 -- Document 01, 'What each command says'; IEC 60870-5-101, 7.4 (functions) and 7.2.6.22, 7.2.6.23 (qualifiers).
-use Rattle.std.specs.Prelude.{ℕ, zero, suc, ◌+◌, ◌-◌, ◌/◌, ◌%◌, List, [], ◌∷◌, ◌++◌, map, Bool, true, false, ◌||◌, not, take, drop, get_or, replicate, leb, eqb}
+use Rattle.std.specs.Prelude.{ℕ, zero, suc, ◌+◌, ◌-◌, ◌/◌, ◌%◌, List, [], ◌∷◌, ◌++◌, map, Bool, true, false, ◌||◌, not, take, drop, get_or, replicate, leb, eqb, Ok, Err}
 use Rattle.std.proofs.Math.Option.{Option, none, some}
 use Rattle.limits.specs.Test.{◌&◌, pick}
 use Rattle.limits.specs.Size.{header_octets, address_octets}
-use Rattle.limits.specs.declared.outcome.Outcome.TheVariants.{Done, Silent}
+use Rattle.limits.specs.Outcome.{done}
+use Rattle.limits.specs.declared.outcome.Refusal.TheVariants.{Silent}
+use Rattle.asdu.specs.Command.{Reading, read_as, outcome_of}
+use Rattle.asdu.specs.declared.command.Unread.TheVariants.{LengthOutOfRange, TypeNotServed, ObjectsNotWhole}
 use Rattle.octets.specs.Number.{three}
 use Rattle.model.specs.declared.Point.{Point}
 use Rattle.model.specs.Place.{is_counter, with_value}
@@ -15,9 +18,6 @@ use Rattle.asdu.specs.Cause.{request, activation, activation_confirmation, activ
 use Rattle.asdu.specs.Header.{Asdu, global_address}
 use Rattle.asdu.specs.declared.command.Command.{Command}
 use Rattle.asdu.specs.declared.command.Entry.TheVariants.{SystemCommands}
-use Rattle.asdu.specs.declared.command.Reading.{Reading}
-use Rattle.asdu.specs.declared.command.Reading.TheVariants.{LengthOutOfRange, TypeNotServed, ObjectsNotWhole, Parsed}
-use Rattle.asdu.specs.Command.{read_as, outcome_of}
 use Rattle.asdu.specs.Confirmation.{confirmation, echo}
 use Rattle.report.specs.declared.Selection.{Selection}
 use Rattle.report.specs.declared.Selection.TheVariants.{Every, Group, CounterGroup}
@@ -181,16 +181,16 @@ unfoldable pub command_said : List ℕ → List ℕ → Command → Table → Sa
 command_said clock m c t =
     pick (eqb c.kind interrogation_type) (says (interrogation_answer c m t) t clock)
     (pick (eqb c.kind counters_type)
-    (record { outcome = Done; answer = counter_answer c m t; told = []; after = after_counters t c.ca (qualifier_of m); clock = clock })
+    (record { outcome = done; answer = counter_answer c m t; told = []; after = after_counters t c.ca (qualifier_of m); clock = clock })
     (pick (eqb c.kind read_type) (says (read_answer c m (points_read c m t)) t clock)
     (says (echoed c m false ∷ []) t (pick (eqb c.kind clock_type) (clock_from m) clock))))
 
 -- The order of the tests: malformed or not served; silent; then the command's own answer.
 unfoldable pub system_from : List ℕ → List ℕ → Reading → Table → Said
-system_from clock m LengthOutOfRange t = unsaid (outcome_of LengthOutOfRange) t clock
-system_from clock m TypeNotServed t = unsaid (outcome_of TypeNotServed) t clock
-system_from clock m ObjectsNotWhole t = unsaid (outcome_of ObjectsNotWhole) t clock
-system_from clock m (Parsed c) t = pick (is_silent c m) (unsaid Silent t clock) (command_said clock m c t)
+system_from clock m (Err LengthOutOfRange) t = unsaid (outcome_of (Err LengthOutOfRange)) t clock
+system_from clock m (Err TypeNotServed) t = unsaid (outcome_of (Err TypeNotServed)) t clock
+system_from clock m (Err ObjectsNotWhole) t = unsaid (outcome_of (Err ObjectsNotWhole)) t clock
+system_from clock m (Ok c) t = pick (is_silent c m) (unsaid (Err Silent) t clock) (command_said clock m c t)
 
 -- What a system command says to a table.
 abbrev pub system_said : List ℕ → List ℕ → Table → Said

@@ -7,7 +7,8 @@ use Rattle.limits.specs.Test.{◌&◌}
 use Rattle.limits.specs.Size.{standard_limit, class_of, element_octets, listed, octets_in, named_types, point_types, system_types, process_types, end_types}
 use Rattle.asdu.specs.declared.command.Entry.TheVariants.{SystemCommands, ProcessCommands}
 use Rattle.asdu.specs.declared.command.Command.{Command}
-use Rattle.asdu.specs.declared.command.Reading.TheVariants.{LengthOutOfRange, TypeNotServed, ObjectsNotWhole, Parsed}
+use Rattle.std.specs.Prelude.{Ok, Err}
+use Rattle.asdu.specs.declared.command.Unread.TheVariants.{LengthOutOfRange, TypeNotServed, ObjectsNotWhole}
 use Rattle.asdu.specs.Identification.{interrogation_command, test_command}
 use Rattle.asdu.specs.Cause.{activation, activation_confirmation, activation_termination}
 use Rattle.asdu.specs.Joined.{joined}
@@ -22,7 +23,7 @@ asked = 0x64 ∷ 1 ∷ 6 ∷ 0 ∷ 7 ∷ 0 ∷ 0 ∷ 0 ∷ 0 ∷ 0x14 ∷ []
 abbrev pub interrogation : Command
 interrogation = record { kind = interrogation_command; count = 1; cause = activation; test = false; originator = 0; ca = 7; element = 1 }
 
-pub case_a_read : read_as standard_limit SystemCommands asked ≡ Parsed interrogation
+pub case_a_read : read_as standard_limit SystemCommands asked ≡ Ok interrogation
 unfolding read_as ◌&◌ class_of element_octets listed octets_in named_types point_types system_types process_types end_types
 case_a_read = refl
 
@@ -47,7 +48,7 @@ tested = 0x68 ∷ 2 ∷ 0xC6 ∷ 5 ∷ 0xFF ∷ 0xFF ∷ 1 ∷ 0 ∷ 0 ∷ 0xAA 
 abbrev pub test : Command
 test = record { kind = test_command; count = 2; cause = activation; test = true; originator = 5; ca = global_address; element = 2 }
 
-pub test_read : read_as standard_limit SystemCommands tested ≡ Parsed test
+pub test_read : read_as standard_limit SystemCommands tested ≡ Ok test
 unfolding read_as ◌&◌ class_of element_octets listed octets_in named_types point_types system_types process_types end_types
 test_read = refl
 
@@ -57,14 +58,14 @@ unfolding echo reply objects_in asdu_octets header object_octets joined
 test_echo = refl
 
 -- five octets are too few; the entry for process types does not serve 104; the sequence flag with count 0 is malformed
-pub short_read : read_as standard_limit SystemCommands (0x64 ∷ 1 ∷ 6 ∷ 0 ∷ 7 ∷ []) ≡ LengthOutOfRange
+pub short_read : read_as standard_limit SystemCommands (0x64 ∷ 1 ∷ 6 ∷ 0 ∷ 7 ∷ []) ≡ Err LengthOutOfRange
 unfolding read_as ◌&◌
 short_read = refl
 
-pub other_entry : read_as standard_limit ProcessCommands tested ≡ TypeNotServed
+pub other_entry : read_as standard_limit ProcessCommands tested ≡ Err TypeNotServed
 unfolding read_as ◌&◌ class_of listed point_types system_types
 other_entry = refl
 
-pub sequence_read : read_as standard_limit SystemCommands (0x64 ∷ 0x80 ∷ 6 ∷ 0 ∷ 7 ∷ 0 ∷ []) ≡ ObjectsNotWhole
+pub sequence_read : read_as standard_limit SystemCommands (0x64 ∷ 0x80 ∷ 6 ∷ 0 ∷ 7 ∷ 0 ∷ []) ≡ Err ObjectsNotWhole
 unfolding read_as ◌&◌ class_of listed point_types system_types
 sequence_read = refl

@@ -16,8 +16,8 @@ use Rattle.octets.specs.Number.{three}
 use Rattle.asdu.specs.declared.header.Header.{Header}
 use Rattle.asdu.specs.declared.command.Entry.{Entry}
 use Rattle.asdu.specs.declared.command.Command.{Command}
-use Rattle.asdu.specs.declared.command.Reading.TheVariants.{LengthOutOfRange, TypeNotServed, ObjectsNotWhole, Parsed}
-use Rattle.asdu.specs.declared.command.FirstObject.TheVariants.{Object, None}
+use Rattle.std.specs.Prelude.{Ok, Err, Option, Some, None}
+use Rattle.asdu.specs.declared.command.Unread.TheVariants.{LengthOutOfRange, TypeNotServed, ObjectsNotWhole}
 use Rattle.asdu.specs.Header.{header, most_octets, kind_in, sequence_in}
 use Rattle.asdu.specs.Command.{serves, length_ok, object_at, whole_objects, command_in, read_as, first_object}
 use Rattle.asdu.proofs.Laws.{length_after, cause_back, sequence_clear}
@@ -41,14 +41,14 @@ pub record WellRead (limit : ℕ) (entry : Entry) (m : List ℕ) (c : Command) :
   pub small : c.element ≤ 12
 
 -- all three tests held
-passed : (a b d : Bool) (x c : Command) → pick a (pick b (pick d (Parsed x) ObjectsNotWhole) TypeNotServed) LengthOutOfRange ≡ Parsed c
+passed : (a b d : Bool) (x c : Command) → pick a (pick b (pick d (Ok x) (Err ObjectsNotWhole)) (Err TypeNotServed)) (Err LengthOutOfRange) ≡ Ok c
     → (a ≡ true) × (b ≡ true) × (d ≡ true) × (c ≡ x)
 passed true true true x c e = (refl, refl, refl, cc)
 passed true true false x c e = let z : ◌≡◌ {A = ℕ} 0 1 = cc in absurd (omega arith)
 passed true false d x c e = let z : ◌≡◌ {A = ℕ} 0 1 = cc in absurd (omega arith)
 passed false b d x c e = let z : ◌≡◌ {A = ℕ} 0 1 = cc in absurd (omega arith)
 
-pub parsed_is : (limit : ℕ) (entry : Entry) (m : List ℕ) (c : Command) → read_as limit entry m ≡ Parsed c → WellRead limit entry m c
+pub parsed_is : (limit : ℕ) (entry : Entry) (m : List ℕ) (c : Command) → read_as limit entry m ≡ Ok c → WellRead limit entry m c
 unfolding read_as
 parsed_is limit entry m c e =
     let t = passed (length_ok limit (length m)) (serves entry (class_of (kind_in m))) (whole_objects m) (command_in m) c e in
@@ -84,25 +84,19 @@ first_there element count m h k = let t = object_there element count 0 m h k in 
 pub no_first : (c : Command) (m : List ℕ) → first_object c m ≡ None → c.count ≡ 0
 no_first c m e = eqb-true _ _ (go (eqb c.count 0) e)
   where
-    go : (b : Bool) → pick b None (Object (three m 6) 9) ≡ None → b ≡ true
+    go : (b : Bool) → pick {A = Option (ℕ × ℕ)} b None (Some (three m 6, 9)) ≡ None → b ≡ true
     go true e = refl
     go false e = let z : ◌≡◌ {A = ℕ} 0 1 = cc in absurd (omega arith)
 
--- what a first object is
-pub record First (c : Command) (m : List ℕ) (ioa at : ℕ) : Type 0 where
-  pub some : 0 < c.count
-  pub is_ioa : ioa ≡ three m 6
-  pub is_at : at ≡ 9
-
-pub first_is : (c : Command) (m : List ℕ) (ioa at : ℕ) → first_object c m ≡ Object ioa at → First c m ioa at
-first_is c m ioa at e = go (eqb c.count 0) refl e
+-- a first object: the count is not 0
+pub has_first : (c : Command) (m : List ℕ) (o : ℕ × ℕ) → first_object c m ≡ Some o → 0 < c.count
+has_first c m o e = go (eqb c.count 0) refl e
   where
-    go : (b : Bool) → eqb c.count 0 ≡ b → pick b None (Object (three m 6) 9) ≡ Object ioa at → First c m ioa at
+    positive : (c.count ≡ 0 → ⊥) → 0 < c.count
+    positive none = omega arith
+    go : (b : Bool) → eqb c.count 0 ≡ b → pick {A = Option (ℕ × ℕ)} b None (Some (three m 6, 9)) ≡ Some o → 0 < c.count
     go true t e = let z : ◌≡◌ {A = ℕ} 0 1 = cc in absurd (omega arith)
-    go false t e = record { some = positive (eqb-false _ _ t); is_ioa = cc; is_at = cc }
-      where
-        positive : (c.count ≡ 0 → ⊥) → 0 < c.count
-        positive none = omega arith
+    go false t e = positive (eqb-false _ _ t)
 
 -- ---- a command that was written is read back
 
@@ -121,7 +115,7 @@ command_of h =
 
 pub read_written : (limit : ℕ) (entry : Entry) (h : Header) (objects : List ℕ) → h.count < 128 → h.cause < 64
     → 6 + length objects ≤ most_octets limit → serves entry (class_of h.kind) ≡ true → 6 + length objects ≡ object_at (element_octets h.kind) h.count
-    → read_as limit entry (header h ++ objects) ≡ Parsed (command_of h)
+    → read_as limit entry (header h ++ objects) ≡ Ok (command_of h)
 unfolding read_as header
 read_written limit entry h objects few low fits served whole =
     let n : h.count % 128 ≡ h.count = omega arith in
@@ -133,4 +127,4 @@ read_written limit entry h objects few low fits served whole =
     join (ap not (sequence_clear h objects few))
     (eq-eqb (length (header h ++ objects)) (object_at (element_octets h.kind) (h.count % 128)) (k ∙ whole ∙ sym (ap (object_at (element_octets h.kind)) n))) in
     simp (L, served, W)
-    (λ j. Parsed record { kind = h.kind; count = n j; cause = b.is_cause j; test = b.is_test j; originator = h.originator; ca = a j; element = element_octets h.kind })
+    (λ j. Ok record { kind = h.kind; count = n j; cause = b.is_cause j; test = b.is_test j; originator = h.originator; ca = a j; element = element_octets h.kind })

@@ -1,20 +1,18 @@
 -- A command as it is read: document 01's tests in their order, the parts, where the objects lie, and the first object.
 -- Document 01, 'Octets of an ASDU' and 'Numbers given back'.
-use Rattle.std.specs.Prelude.{ℕ, ◌+◌, ◌*◌, List, Bool, true, false, not, length, leb, eqb}
+use Rattle.std.specs.Prelude.{ℕ, ◌+◌, ◌*◌, List, Bool, true, false, not, length, leb, eqb, Result, Ok, Err, Option, Some, None}
 use Rattle.limits.specs.Test.{◌&◌, pick}
 use Rattle.limits.specs.Size.{class_of, element_octets, header_octets, address_octets}
 use Rattle.limits.specs.declared.size.Class.{Class}
 use Rattle.limits.specs.declared.size.Class.TheVariants.{Point, System, Process, EndOfInitialization, Unknown}
-use Rattle.limits.specs.declared.outcome.Outcome.{Outcome}
-use Rattle.limits.specs.declared.outcome.Outcome.TheVariants.{Done, Silent, Malformed}
+use Rattle.limits.specs.declared.outcome.Refusal.{Refusal}
+use Rattle.limits.specs.declared.outcome.Refusal.TheVariants.{Silent, Malformed}
+use Rattle.asdu.specs.declared.command.Unread.{Unread}
+use Rattle.asdu.specs.declared.command.Unread.TheVariants.{LengthOutOfRange, TypeNotServed, ObjectsNotWhole}
 use Rattle.octets.specs.Number.{three}
 use Rattle.asdu.specs.declared.command.Entry.{Entry}
 use Rattle.asdu.specs.declared.command.Entry.TheVariants.{SystemCommands, ProcessCommands}
 use Rattle.asdu.specs.declared.command.Command.{Command}
-use Rattle.asdu.specs.declared.command.Reading.{Reading}
-use Rattle.asdu.specs.declared.command.Reading.TheVariants.{LengthOutOfRange, TypeNotServed, ObjectsNotWhole, Parsed}
-use Rattle.asdu.specs.declared.command.FirstObject.{FirstObject}
-use Rattle.asdu.specs.declared.command.FirstObject.TheVariants.{Object, None}
 use Rattle.asdu.specs.Header.{most_octets, kind_in, count_in, sequence_in, cause_in, test_in, originator_in, ca_in}
 
 abbrev pub is_system : Class → Bool
@@ -65,22 +63,25 @@ command_in m =
       element = element_octets (kind_in m);
     }
 
+-- A command, or why there is none.
+abbrev pub Reading : Type 0
+Reading = Result Command Unread
+
 -- What an entry reads under the length limit L: the first test that fails, or the command.
 unfoldable pub read_as : ℕ → Entry → List ℕ → Reading
 read_as limit entry m =
     pick (length_ok limit (length m))
     (pick (serves entry (class_of (kind_in m)))
-    (pick (whole_objects m) (Parsed (command_in m)) ObjectsNotWhole)
-    TypeNotServed)
-    LengthOutOfRange
+    (pick (whole_objects m) (Ok (command_in m)) (Err ObjectsNotWhole))
+    (Err TypeNotServed))
+    (Err LengthOutOfRange)
 
--- What a reading that is no command is answered by: 2, 1, 2 of document 01; a command has passed these tests.
-abbrev pub outcome_of : Reading → Outcome
-outcome_of LengthOutOfRange = Malformed
-outcome_of TypeNotServed = Silent
-outcome_of ObjectsNotWhole = Malformed
-outcome_of (Parsed c) = Done
+-- What answers octets that are no command: 2, 1, 2 of document 01.
+abbrev pub refusal_of : Unread → Refusal
+refusal_of LengthOutOfRange = Malformed
+refusal_of TypeNotServed = Silent
+refusal_of ObjectsNotWhole = Malformed
 
 -- The first object: its address and where its element lies; none where the count is 0.
-abbrev pub first_object : Command → List ℕ → FirstObject
-first_object c m = pick (eqb c.count 0) None (Object (three m header_octets) first_element)
+abbrev pub first_object : Command → List ℕ → Option (ℕ × ℕ)
+first_object c m = pick (eqb c.count 0) None (Some (three m header_octets, first_element))

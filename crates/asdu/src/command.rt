@@ -1,9 +1,9 @@
 // A command as it is read from its octets, and its first object.
 ghost use Rattle.std.specs.Prelude.{◌≡◌, ◌+◌, ◌*◌, ◌≤◌, length};
 ghost use Rattle.limits.specs.Size.{class_of, header_octets};
-ghost use Rattle.asdu.specs.Command.{is_system, is_process, serves, length_ok, object_at, whole_objects, command_in, read_as, outcome_of, first_object};
+ghost use Rattle.asdu.specs.Command.{is_system, is_process, serves, length_ok, object_at, whole_objects, command_in, read_as, refusal_of, first_object};
 
-use limits::outcome::Outcome;
+use limits::outcome::Refusal;
 use limits::size::{ADDRESS_OCTETS, CONTROL_OCTETS, Class, HEADER_OCTETS};
 
 // Which of the two entries asks.
@@ -25,34 +25,25 @@ pub struct Command {
     pub element: usize,
 }
 
-// What an entry reads: the first test that fails, in document 01's order, or the command.
-#[derive(Clone, Copy)]
-pub enum Reading {
+// Why an entry reads no command: the first test that fails, in document 01's order.
+#[derive(Clone, Copy, Debug, PartialEq, Eq)]
+pub enum Unread {
     LengthOutOfRange,
     TypeNotServed,
     ObjectsNotWhole,
-    Parsed(Command),
 }
 
-impl Reading {
-    // What answers a reading that is no command.
-    pub fn outcome(self) -> Outcome
-        ensures { result ≡ outcome_of self }
-    {
-        match self {
-            Reading::LengthOutOfRange => Outcome::Malformed,
-            Reading::TypeNotServed => Outcome::Silent,
-            Reading::ObjectsNotWhole => Outcome::Malformed,
-            Reading::Parsed(_) => Outcome::Done,
+// What answers octets that are no command.
+impl From<Unread> for Refusal {
+    ghost from_gives = { λ unread refusal. refusal ≡ refusal_of unread };
+
+    fn from(unread: Unread) -> Refusal {
+        match unread {
+            Unread::LengthOutOfRange => Refusal::Malformed,
+            Unread::TypeNotServed => Refusal::Silent,
+            Unread::ObjectsNotWhole => Refusal::Malformed,
         }
     }
-}
-
-// A command's first object: its address and where its element lies; or none.
-#[derive(Clone, Copy)]
-pub enum FirstObject {
-    Object(usize, usize),
-    None,
 }
 
 fn is_system(class: Class) -> bool
@@ -129,31 +120,31 @@ fn command_in(asdu: &[u8]) -> Command
 }
 
 // Reads a command under a length limit, testing in document 01's order.
-pub fn parse(asdu: &[u8], entry: Entry, limit: usize) -> Reading
+pub fn parse(asdu: &[u8], entry: Entry, limit: usize) -> Result<Command, Unread>
     ensures { result ≡ read_as limit entry asdu.now }
 {
     if !is_length(asdu.len(), limit) {
-        return Reading::LengthOutOfRange;
+        return Err(Unread::LengthOutOfRange);
     }
     if !is_served(entry, asdu[0]) {
-        return Reading::TypeNotServed;
+        return Err(Unread::TypeNotServed);
     }
     if !has_whole_objects(asdu) {
-        return Reading::ObjectsNotWhole;
+        return Err(Unread::ObjectsNotWhole);
     }
-    Reading::Parsed(command_in(asdu))
+    Ok(command_in(asdu))
 }
 
-// The first object of a command whose objects lie in `asdu`.
-pub fn first_object(command: Command, asdu: &[u8]) -> FirstObject
+// The first object of a command whose objects lie in `asdu`: its address and where its element lies; or none.
+pub fn first_object(command: Command, asdu: &[u8]) -> Option<(usize, usize)>
     requires { object_at command.element command.count ≤ length asdu.now }
     ensures { result ≡ first_object command asdu.now }
 {
     if command.count == 0 {
-        return FirstObject::None;
+        return None;
     }
-    FirstObject::Object(
+    Some((
         octets::three_at(asdu, HEADER_OCTETS),
         HEADER_OCTETS + ADDRESS_OCTETS,
-    )
+    ))
 }

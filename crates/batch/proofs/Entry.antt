@@ -4,8 +4,7 @@ use mathlib.Core.List.{List, []}
 use mathlib.Core.Bool.{true, false}
 use Prim.Native.Nat.{ℕ}
 use Rattle.limits.specs.Test.{pick}
-use Rattle.limits.specs.Outcome.{is_done}
-use Rattle.limits.specs.declared.outcome.Outcome.TheVariants.{Done}
+use Rattle.limits.specs.Outcome.{done, is_done}
 use Rattle.limits.proofs.Outcomes.{done_is}
 use Rattle.model.specs.declared.Request.{Request}
 use Rattle.table.specs.Memory.{well_formed, table_of}
@@ -59,7 +58,7 @@ module _ (m : List ℕ) (w : well_formed m ≡ true) (qs : List Request) where
         (room_reply_lem, sym (room_memory ∙ simp n))
 
     -- What the storing asks.
-    pub has_room : is_done x.outcome ≡ true → (room_tests (table_of m) 0 qs).outcome ≡ Done
+    pub has_room : is_done x.outcome ≡ true → (room_tests (table_of m) 0 qs).outcome ≡ done
     has_room d = sym room_outcome ∙ done_is _ d
 
     -- Done: all are stored.

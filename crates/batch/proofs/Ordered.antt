@@ -10,7 +10,7 @@ use lib.ListN.{length}
 use lib.Dec.{eqb}
 use borrow.Author.Tests.{leb-true, eq-eqb}
 use Rattle.limits.specs.Test.{◌&◌, total}
-use Rattle.limits.specs.declared.outcome.Outcome.TheVariants.{Done}
+use Rattle.limits.specs.Outcome.{done}
 use Rattle.limits.proofs.Tests.{both, join}
 use Rattle.limits.proofs.Outcomes.{not_both}
 use Rattle.octets.specs.Number.{two, four}
@@ -128,10 +128,10 @@ record First (t : Table) (i : ℕ) (q : Request) (qs : List Request) : Type 0 wh
   on : room_tests t i (q ∷ qs) ≡ room_tests (with_request t q) (i + 1) qs
   good : Good (with_request t q)
   ready : Ready (with_request t q) qs
-  room : (room_tests (with_request t q) (i + 1) qs).outcome ≡ Done
+  room : (room_tests (with_request t q) (i + 1) qs).outcome ≡ done
 
 -- the first turn
-first_turn : (t : Table) (i : ℕ) (q : Request) (qs : List Request) → length q.value ≡ 12 → Good t → Ready t (q ∷ qs) → (room_tests t i (q ∷ qs)).outcome ≡ Done → First t i q qs
+first_turn : (t : Table) (i : ℕ) (q : Request) (qs : List Request) → length q.value ≡ 12 → Good t → Ready t (q ∷ qs) → (room_tests t i (q ∷ qs)).outcome ≡ done → First t i q qs
 first_turn t i q qs w g y e =
     let p = ready_first t q qs y in
     let d = room_first t i q qs e in
@@ -162,7 +162,7 @@ unfolding added changed
 same_capacity t q = refl
 
 -- The table after an accepted batch is good, of the same capacity, and holds a point more for each record.
-pub batch_numbers : (r : List ℕ) (t : Table) (i at n : ℕ) → Good t → Ready t (requests_at r at n) → (room_tests t i (requests_at r at n)).outcome ≡ Done
+pub batch_numbers : (r : List ℕ) (t : Table) (i at n : ℕ) → Good t → Ready t (requests_at r at n) → (room_tests t i (requests_at r at n)).outcome ≡ done
     → Good (room_tests t i (requests_at r at n)).after × ((room_tests t i (requests_at r at n)).after.capacity ≡ t.capacity)
     × (total held (room_tests t i (requests_at r at n)).after.stations ≡ total held t.stations + n)
 unfolding requests_at room_tests
@@ -185,7 +185,7 @@ one_more t q g a =
 
 -- The places of the table after an accepted batch are those before it with the batch's put in.
 pub batch_places : (r : List ℕ) (t : Table) (i at n : ℕ) → at ≡ 24 * i → i + n ≤ 4096 → Good t → Ready t (requests_at r at n)
-    → (room_tests t i (requests_at r at n)).outcome ≡ Done → places.Apart (placed_of r) (numbers_from r i n)
+    → (room_tests t i (requests_at r at n)).outcome ≡ done → places.Apart (placed_of r) (numbers_from r i n)
     → flat (room_tests t i (requests_at r at n)).after.stations ≡ with_places (placed_of r) (flat t.stations) (numbers_from r i n)
 unfolding requests_at room_tests numbers_from with_places places.Apart
 batch_places r t i at zero h few g y e a = refl

@@ -1,7 +1,7 @@
 -- What raising the stations' numbers does to a memory, as the code runs: nobody need believe these, the image law ties them to the table with the points;
 -- and what the storing of a batch waits for.
 use Rattle.std.specs.Prelude.{ℕ, zero, suc, ◌+◌, ◌<◌, ◌≡◌, true, List, [], get_or}
-use Rattle.limits.specs.declared.outcome.Outcome.TheVariants.{Done}
+use Rattle.limits.specs.Outcome.{done}
 use Rattle.octets.specs.Over.{over}
 use Rattle.octets.specs.Number.{pair}
 use Rattle.layout.specs.Layout.{station_size, held_offset, held_at}
@@ -22,4 +22,4 @@ Raisable m taken i at (suc n) = (held_at m at + get_or taken i 0 < 65536) × Rai
 -- Every point of a batch has passed its own tests and the share rule.
 abbrev pub AllPass : List ℕ → List ℕ → Type 0
 AllPass m r =
-    (well_formed m ≡ true) × ((own_tests (table_of m) [] 0 (requests_in r)).outcome ≡ Done) × ((room_tests (table_of m) 0 (requests_in r)).outcome ≡ Done)
+    (well_formed m ≡ true) × ((own_tests (table_of m) [] 0 (requests_in r)).outcome ≡ done) × ((room_tests (table_of m) 0 (requests_in r)).outcome ≡ done)

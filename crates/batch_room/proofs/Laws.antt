@@ -9,11 +9,11 @@ use lib.ListN.{length, get_or, set, replicate, length-set, length-replicate}
 use lib.Dec.{eqb}
 use borrow.Author.Tests.{lt-ltb}
 use Rattle.limits.specs.Test.{pick, total}
-use Rattle.limits.specs.Outcome.{is_done}
+use Rattle.std.specs.Prelude.{Err}
+use Rattle.limits.specs.Outcome.{Outcome, done, is_done}
+use Rattle.limits.specs.declared.outcome.Refusal.TheVariants.{StationNotPlanned}
 use Rattle.limits.specs.Share.{held_of, unmet_of, taken_in, admission_of}
 use Rattle.limits.specs.declared.share.Share.{Share}
-use Rattle.limits.specs.declared.outcome.Outcome.{Outcome}
-use Rattle.limits.specs.declared.outcome.Outcome.TheVariants.{Done, StationNotPlanned}
 use Rattle.limits.proofs.Outcomes.{done_is, not_both}
 use Rattle.limits.proofs.Shares.{unmet_is, admitted_only}
 use Rattle.octets.specs.Number.{two}
@@ -67,7 +67,7 @@ done_below s free unmet d = (admitted_only s free unmet (admitted_is _ (done_is 
 
 module _ (m taken : List ℕ) (ca free unmet : ℕ) where
   pub turn_unplanned : seat_at m ca ≡ NotPlanned
-      → (record { outcome = StationNotPlanned; free = free; unmet = unmet } ≡ standing_at m taken (seat_at m ca) free unmet)
+      → (record { outcome = (Err StationNotPlanned); free = free; unmet = unmet } ≡ standing_at m taken (seat_at m ca) free unmet)
       × (taken ≡ taken_at m taken (seat_at m ca) free unmet)
   unfolding standing_at taken_at
   turn_unplanned e = (ap (λ (s : Seat). standing_at m taken s free unmet) (sym e), ap (λ (s : Seat). taken_at m taken s free unmet) (sym e))
@@ -140,7 +140,7 @@ module _ (m taken r : List ℕ) (free unmet i n : ℕ) where
   unfolding taken_run
   taken_end h = ap (taken_run m taken free unmet) (requests_end r i n h)
 
-  pub run_end : n ≤ i → room_run m taken free unmet i (requests_at r (24 * i) (n - i)) ≡ record { outcome = Done; place = 0 }
+  pub run_end : n ≤ i → room_run m taken free unmet i (requests_at r (24 * i) (n - i)) ≡ record { outcome = done; place = 0 }
   unfolding room_run
   run_end h = ap (room_run m taken free unmet i) (requests_end r i n h)
 
@@ -246,7 +246,7 @@ one_turn o o' i t x y e again = by_test (is_done o) refl ∙ ap (λ (z : Outcome
     by_test true d = again d
     by_test false d = refl
 
-none_left : (i : ℕ) (t : Table) → record { outcome = Done; place = 0 } ≡ reply_of (room_tests t i [])
+none_left : (i : ℕ) (t : Table) → record { outcome = done; place = 0 } ≡ reply_of (room_tests t i [])
 unfolding room_tests reply_of
 none_left i t = refl
 
@@ -283,21 +283,21 @@ run_law m (q ∷ qs) taken free unmet' i t a =
 -- ---- what each station took in
 
 -- the first request of those that have room has room, and the others go on from the table with its point
-pub room_first : (t : Table) (i : ℕ) (q : Request) (qs : List Request) → (room_tests t i (q ∷ qs)).outcome ≡ Done
-    → (room_fault t (station_of q.ca t.stations) ≡ Done) × (room_tests t i (q ∷ qs) ≡ room_tests (with_request t q) (i + 1) qs)
+pub room_first : (t : Table) (i : ℕ) (q : Request) (qs : List Request) → (room_tests t i (q ∷ qs)).outcome ≡ done
+    → (room_fault t (station_of q.ca t.stations) ≡ done) × (room_tests t i (q ∷ qs) ≡ room_tests (with_request t q) (i + 1) qs)
 unfolding room_tests
 room_first t i q qs e = by_test (is_done (room_fault t (station_of q.ca t.stations))) refl e
   where
     by_test : (b : Bool) → is_done (room_fault t (station_of q.ca t.stations)) ≡ b
-        → (pick b (room_tests (with_request t q) (i + 1) qs) (refused (room_fault t (station_of q.ca t.stations)) i t)).outcome ≡ Done
-        → (room_fault t (station_of q.ca t.stations) ≡ Done)
+        → (pick b (room_tests (with_request t q) (i + 1) qs) (refused (room_fault t (station_of q.ca t.stations)) i t)).outcome ≡ done
+        → (room_fault t (station_of q.ca t.stations) ≡ done)
         × (pick b (room_tests (with_request t q) (i + 1) qs) (refused (room_fault t (station_of q.ca t.stations)) i t) ≡ room_tests (with_request t q) (i + 1) qs)
     by_test true d f = (done_is _ d, refl)
     by_test false d f = not_both (sym d ∙ ap is_done f)
 
 -- the turn of a request by its seat
 turn_taken : (m taken : List ℕ) (free unmet' : ℕ) (t : Table) (q : Request) (qs : List Request) (goal : List Holding) (s : Seat) → Along m taken free unmet' t
-    → seat_at m q.ca ≡ s → room_fault t (station_of q.ca t.stations) ≡ Done
+    → seat_at m q.ca ≡ s → room_fault t (station_of q.ca t.stations) ≡ done
     → ((taken : List ℕ) (free unmet' : ℕ) → Along m taken free unmet' (with_request t q)
     → goal ≡ lines_at m (taken_run m taken free unmet' qs) 0 (64 + 48 * two m 4) (two m 6))
     → goal ≡ lines_at m (pick (is_done (standing_at m taken s free unmet').outcome)
@@ -312,7 +312,7 @@ turn_taken m taken free unmet' t q qs goal NotPlanned a e r again =
     not_both (ap is_done (same_fault m taken free unmet' t q.ca NotPlanned a e ∙ r))
 
 -- What was taken in after the turns is what the stations of the table hold more.
-run_taken : (m : List ℕ) (qs : List Request) (taken : List ℕ) (free unmet' i : ℕ) (t : Table) → Along m taken free unmet' t → (room_tests t i qs).outcome ≡ Done
+run_taken : (m : List ℕ) (qs : List Request) (taken : List ℕ) (free unmet' i : ℕ) (t : Table) → Along m taken free unmet' t → (room_tests t i qs).outcome ≡ done
     → map holding_of (room_tests t i qs).after.stations ≡ lines_at m (taken_run m taken free unmet' qs) 0 (64 + 48 * two m 4) (two m 6)
 unfolding taken_run
 run_taken m [] taken free unmet' i t a d = none_more m taken t i a.lines

@@ -1,11 +1,11 @@
 -- The share rule over a batch: the answer, and below the line the turns as the code takes them.
 -- Document 01, 'Points, stations and shares': then the share rule as if registered one by one.
-use Rattle.std.specs.Prelude.{ℕ, ◌+◌, ◌*◌, ◌-◌, ◌≡◌, List, [], ◌∷◌, map, get_or, set}
+use Rattle.std.specs.Prelude.{ℕ, ◌+◌, ◌*◌, ◌-◌, ◌≡◌, List, [], ◌∷◌, map, get_or, set, Err}
 use Rattle.limits.specs.Test.{pick}
 use Rattle.limits.specs.Share.{unmet_of, taken_in, admission_of}
-use Rattle.limits.specs.Outcome.{is_done}
+use Rattle.limits.specs.Outcome.{done, is_done}
+use Rattle.limits.specs.declared.outcome.Refusal.TheVariants.{StationNotPlanned}
 use Rattle.limits.specs.declared.share.Share.{Share}
-use Rattle.limits.specs.declared.outcome.Outcome.TheVariants.{Done, StationNotPlanned}
 use Rattle.layout.specs.Layout.{station_size, stations_from}
 use Rattle.model.specs.declared.Request.{Request}
 use Rattle.lookup.specs.declared.Seat.{Seat}
@@ -30,7 +30,7 @@ holding_with (s ∷ ss) taken i =
 
 -- Where a batch has room, what each station took in is what it holds more afterwards.
 abbrev pub TookIn : Table → List Request → List ℕ → Type 0
-TookIn t qs taken = (room_tests t 0 qs).outcome ≡ Done → map holding_of (room_tests t 0 qs).after.stations ≡ holding_with t.stations taken 0
+TookIn t qs taken = (room_tests t 0 qs).outcome ≡ done → map holding_of (room_tests t 0 qs).after.stations ≡ holding_with t.stations taken 0
 
 -- ---- as the code runs: nobody need believe what follows, `room_law` ties it to `room_reply`
 
@@ -50,7 +50,7 @@ station_at m i = stations_from m + station_size * i
 -- the turn of a request whose station has a seat
 unfoldable pub standing_at : List ℕ → List ℕ → Seat → ℕ → ℕ → Standing
 standing_at m taken (Here i first h) free unmet = standing_of (share_with m (station_at m i) (get_or taken i 0)) free unmet
-standing_at m taken NotPlanned free unmet = record { outcome = StationNotPlanned; free = free; unmet = unmet }
+standing_at m taken NotPlanned free unmet = record { outcome = (Err StationNotPlanned); free = free; unmet = unmet }
 
 -- what the stations have taken in after the turn
 unfoldable pub taken_at : List ℕ → List ℕ → Seat → ℕ → ℕ → List ℕ
@@ -65,7 +65,7 @@ Turned m taken ca free unmet standing taken' =
 
 -- the turns of the requests, the first of which has place i
 unfoldable pub room_run : List ℕ → List ℕ → ℕ → ℕ → ℕ → List Request → Reply
-room_run m taken free unmet i [] = record { outcome = Done; place = 0 }
+room_run m taken free unmet i [] = record { outcome = done; place = 0 }
 room_run m taken free unmet i (q ∷ qs) =
     pick (is_done (standing_at m taken (seat_at m q.ca) free unmet).outcome)
     (room_run m (taken_at m taken (seat_at m q.ca) free unmet) (standing_at m taken (seat_at m q.ca) free unmet).free

@@ -7,9 +7,9 @@ use Prim.Native.Nat.{ℕ, ◌+◌, ◌*◌, ◌-◌, ◌/◌, ◌≤◌, ◌<◌
 use native.Mathlib.Omega.{arith}
 use lib.ListN.{length}
 use Rattle.limits.specs.Test.{pick}
-use Rattle.limits.specs.Outcome.{is_done}
-use Rattle.limits.specs.declared.outcome.Outcome.{Outcome}
-use Rattle.limits.specs.declared.outcome.Outcome.TheVariants.{Done, AddressTwice, AlreadyRegistered}
+use Rattle.std.specs.Prelude.{Err}
+use Rattle.limits.specs.Outcome.{Outcome, done, is_done}
+use Rattle.limits.specs.declared.outcome.Refusal.TheVariants.{AddressTwice, AlreadyRegistered}
 use Rattle.model.specs.declared.Request.{Request}
 use Rattle.model.specs.Request.{own_fault, request_at, requests_at}
 use Rattle.model.proofs.Requests.{Unplanned, unplanned}
@@ -32,7 +32,7 @@ use Rattle.batch_tests.specs.Tests.{is_held}
 -- the tests with the station already looked up
 fault_with : Option Station → List Request → Request → Outcome
 fault_with s earlier q =
-    first_fault (own_fault (is_planned s) q) (first_fault (pick (stands_in q earlier) AddressTwice Done) (registered_fault q s))
+    first_fault (own_fault (is_planned s) q) (first_fault (pick (stands_in q earlier) (Err AddressTwice) done) (registered_fault q s))
 
 never_done : (o : Outcome) → Unplanned o → is_done o ≡ false
 never_done o (unknown e) = ap is_done e
@@ -46,7 +46,7 @@ fault_unplanned t earlier q e = sym (ap (λ (s : Option Station). fault_with s e
 
 module _ (t : Table) (earlier : List Request) (q : Request) (s : Station) (e : station_of q.ca t.stations ≡ some s) where
   with_station : batch_fault t earlier q
-      ≡ first_fault (own_fault true q) (first_fault (pick (stands_in q earlier) AddressTwice Done) (pick (known q.ioa s.points) AlreadyRegistered Done))
+      ≡ first_fault (own_fault true q) (first_fault (pick (stands_in q earlier) (Err AddressTwice) done) (pick (known q.ioa s.points) (Err AlreadyRegistered) done))
   unfolding batch_fault is_planned is_registered fault_with
   with_station = ap (λ (s : Option Station). fault_with s earlier q) e
 
@@ -56,15 +56,15 @@ module _ (t : Table) (earlier : List Request) (q : Request) (s : Station) (e : s
 
   module _ (d : is_done (own_fault true q) ≡ true) where
     -- 16.
-    pub fault_twice : stands_in q earlier ≡ true → AddressTwice ≡ batch_fault t earlier q
+    pub fault_twice : stands_in q earlier ≡ true → (Err AddressTwice) ≡ batch_fault t earlier q
     fault_twice f = sym (with_station ∙ simp (d, f))
 
     -- 17.
-    pub fault_known : stands_in q earlier ≡ false → known q.ioa s.points ≡ true → AlreadyRegistered ≡ batch_fault t earlier q
+    pub fault_known : stands_in q earlier ≡ false → known q.ioa s.points ≡ true → (Err AlreadyRegistered) ≡ batch_fault t earlier q
     fault_known f k = sym (with_station ∙ simp (d, f, k))
 
     -- None.
-    pub fault_none : stands_in q earlier ≡ false → known q.ioa s.points ≡ false → Done ≡ batch_fault t earlier q
+    pub fault_none : stands_in q earlier ≡ false → known q.ioa s.points ≡ false → done ≡ batch_fault t earlier q
     fault_none f k = sym (with_station ∙ simp (d, f, k))
 
 -- What is found at a seat is what the station knows.
@@ -96,7 +96,7 @@ module _ (t : Table) (m : List ℕ) (i n : ℕ) where
   own_stop h d = ap (own_tests t (earlier_at m i) i) (requests_on m i n h) ∙ simp d
 
   -- None is left.
-  pub own_end : n ≤ i → own_tests t (earlier_at m i) i (requests_at m (24 * i) (n - i)) ≡ record { outcome = Done; place = 0 }
+  pub own_end : n ≤ i → own_tests t (earlier_at m i) i (requests_at m (24 * i) (n - i)) ≡ record { outcome = done; place = 0 }
   unfolding own_tests
   own_end h = ap (own_tests t (earlier_at m i) i) (requests_end m i n h)
 

@@ -11,15 +11,15 @@ use lib.Seq.{take-append_seam, get_or-append_seam, drop-length, split_at}
 use lib.Dec.{leb, eqb}
 use borrow.Author.Tests.{leb-true, leb-false, eqb-true, eqb-false}
 use Rattle.limits.specs.Test.{pick}
+use Rattle.std.specs.Prelude.{Ok, Err}
 use Rattle.limits.specs.Outcome.{is_done}
+use Rattle.asdu.specs.Command.{Reading, read_as}
+use Rattle.asdu.specs.declared.command.Unread.TheVariants.{LengthOutOfRange, TypeNotServed, ObjectsNotWhole}
 use Rattle.table.specs.Table.{Table}
 use Rattle.table.specs.Memory.{parse}
 use Rattle.table.specs.Settings.{limit_of}
 use Rattle.asdu.specs.declared.command.Command.{Command}
 use Rattle.asdu.specs.declared.command.Entry.TheVariants.{SystemCommands}
-use Rattle.asdu.specs.declared.command.Reading.{Reading}
-use Rattle.asdu.specs.declared.command.Reading.TheVariants.{LengthOutOfRange, TypeNotServed, ObjectsNotWhole, Parsed}
-use Rattle.asdu.specs.Command.{read_as}
 use Rattle.answers.specs.declared.Answered.{Answered}
 use Rattle.answers.specs.Said.{Said, Lent, lent, outcome_with, lent_from, lent_after, Leaves, as_it_is}
 use Rattle.answers.specs.System.{clock_from, is_silent, command_said, system_from, system_said}
@@ -110,10 +110,10 @@ module _ (clock m : List ℕ) (w : Flagged clock) where
 
   flagged_read : (r : Reading) (t : Table) → Flagged (system_from clock m r t).clock
   unfolding system_from
-  flagged_read LengthOutOfRange t = w
-  flagged_read TypeNotServed t = w
-  flagged_read ObjectsNotWhole t = w
-  flagged_read (Parsed c) t = flagged_pick (is_silent c m) _ _ w (flagged_command c t)
+  flagged_read (Err LengthOutOfRange) t = w
+  flagged_read (Err TypeNotServed) t = w
+  flagged_read (Err ObjectsNotWhole) t = w
+  flagged_read (Ok c) t = flagged_pick (is_silent c m) _ _ w (flagged_command c t)
 
 -- The clock that is left ends in a flag where the one before did.
 pub flagged_after : (m : List ℕ) (l : Lent) → Flagged l.clock → Flagged (lent_after (system_said l.clock m) l).clock

@@ -9,7 +9,11 @@ use lib.ListN.{length}
 use borrow.Author.Tests.{le-leb, lt-leb}
 use Rattle.limits.specs.Test.{pick}
 use Rattle.limits.specs.Size.{header_octets}
-use Rattle.limits.specs.declared.outcome.Outcome.TheVariants.{Done, Silent, AnswerShort, SpontaneousShort, BadProposal}
+use Rattle.std.specs.Prelude.{Ok, Err}
+use Rattle.limits.specs.Outcome.{done}
+use Rattle.limits.specs.declared.outcome.Refusal.TheVariants.{Silent, AnswerShort, SpontaneousShort, BadProposal}
+use Rattle.asdu.specs.Command.{Reading, read_as, outcome_of}
+use Rattle.asdu.specs.declared.command.Unread.TheVariants.{LengthOutOfRange, TypeNotServed, ObjectsNotWhole}
 use Rattle.octets.specs.Over.{over}
 use Rattle.table.specs.Table.{Table}
 use Rattle.table.specs.Settings.{limit_of}
@@ -17,10 +21,7 @@ use Rattle.table.specs.Memory.{table_of, well_formed, parse}
 use Rattle.table.proofs.Parse.{parse_some}
 use Rattle.registry.specs.Effect.{holding}
 use Rattle.asdu.specs.declared.command.Command.{Command}
-use Rattle.asdu.specs.declared.command.Reading.{Reading}
-use Rattle.asdu.specs.declared.command.Reading.TheVariants.{LengthOutOfRange, TypeNotServed, ObjectsNotWhole, Parsed}
 use Rattle.asdu.specs.declared.command.Entry.TheVariants.{ProcessCommands}
-use Rattle.asdu.specs.Command.{read_as, outcome_of}
 use Rattle.asdu.specs.Header.{Asdu, asdu_octets, wire}
 use Rattle.asdu.specs.Puts.{Puts}
 use Rattle.asdu.proofs.Laws.{wire_one}
@@ -38,20 +39,20 @@ gives f l l' r r' e h = record { answers = e ∙ h.answers; leaves = h.leaves }
 
 -- ---- commands that tell something
 
-module _ (f : Table → Said) (l : Lent) (w : well_formed l.table ≡ true) (done : (f (table_of l.table)).outcome ≡ Done) where
+module _ (f : Table → Said) (l : Lent) (w : well_formed l.table ≡ true) (done : (f (table_of l.table)).outcome ≡ done) where
   -- What is told does not fit: 5.
-  ends_untold : length l.spontaneous < size (f (table_of l.table)).told → Leaves as_it_is f l (nothing SpontaneousShort) l
+  ends_untold : length l.spontaneous < size (f (table_of l.table)).told → Leaves as_it_is f l (nothing (Err SpontaneousShort)) l
   unfolding outcome_with
-  ends_untold h = ends_nothing f l w SpontaneousShort (simp (done, lt-leb _ _ h)) refl
+  ends_untold h = ends_nothing f l w (Err SpontaneousShort) (simp (done, lt-leb _ _ h)) refl
 
   -- What is told fits, the answer does not: 4.
   ends_unanswered : size (f (table_of l.table)).told ≤ length l.spontaneous → length l.answer < size (f (table_of l.table)).answer
-      → Leaves as_it_is f l (nothing AnswerShort) l
+      → Leaves as_it_is f l (nothing (Err AnswerShort)) l
   unfolding outcome_with
-  ends_unanswered k h = ends_nothing f l w AnswerShort (simp (done, le-leb _ _ k, lt-leb _ _ h)) refl
+  ends_unanswered k h = ends_nothing f l w (Err AnswerShort) (simp (done, le-leb _ _ k, lt-leb _ _ h)) refl
 
   both_fit : size (f (table_of l.table)).told ≤ length l.spontaneous → size (f (table_of l.table)).answer ≤ length l.answer
-      → outcome_with (f (table_of l.table)) l ≡ Done
+      → outcome_with (f (table_of l.table)) l ≡ done
   unfolding outcome_with
   both_fit k h = simp (done, le-leb _ _ k, le-leb _ _ h)
 
@@ -64,13 +65,13 @@ module _ (f : Table → Said) (l : Lent) (w : well_formed l.table ≡ true) (don
         answer = fronted (f (table_of l.table)).answer l.answer;
         spontaneous = fronted (f (table_of l.table)).told l.spontaneous;
       }
-      → Leaves as_it_is f l (record { outcome = Done; octets = n; spontaneous = k }) l'
+      → Leaves as_it_is f l (record { outcome = done; octets = n; spontaneous = k }) l'
   unfolding answered_from lent_from
   ends_told n k l' en ln ek lk s =
-      let d : outcome_with (f (table_of l.table)) l ≡ Done = both_fit (omega arith) (omega arith) in
+      let d : outcome_with (f (table_of l.table)) l ≡ done = both_fit (omega arith) (omega arith) in
       let p : parse l.table ≡ some (table_of l.table) = parse_some l.table w in
       record {
-        answers = sym (ap (answered_from f l) p ∙ simp d (λ j. record { outcome = Done; octets = sym en j; spontaneous = sym ek j }));
+        answers = sym (ap (answered_from f l) p ∙ simp d (λ j. record { outcome = done; octets = sym en j; spontaneous = sym ek j }));
         leaves = s ∙ sym (ap (lent_from f l) p ∙ simp d);
       }
 
@@ -87,7 +88,7 @@ updates_read false us = refl
 
 module _ (l : Lent) (negative : Bool) (kind : ℕ) (objects us : List ℕ) (c : Command) where
   abbrev said : Table → Said
-  said = process_from l.clock (proposal_of negative kind objects us) (Parsed c)
+  said = process_from l.clock (proposal_of negative kind objects us) (Ok c)
 
   abbrev tells : List Asdu
   tells = told_by (table_of l.table) (updates_at us 0 (pick negative 0 (length us / update_octets)))
@@ -100,19 +101,19 @@ module _ (l : Lent) (negative : Bool) (kind : ℕ) (objects us : List ℕ) (c : 
 
   module _ (w : well_formed l.table ≡ true) where
     -- The cause is not taken: 1.
-    pub process_silent : process_cause_taken c.cause ≡ false → Leaves as_it_is said l (nothing Silent) l
+    pub process_silent : process_cause_taken c.cause ≡ false → Leaves as_it_is said l (nothing (Err Silent)) l
     unfolding process_from
-    process_silent e = ends_refused said l w Silent (simp e) refl
+    process_silent e = ends_refused said l w (Err Silent) (simp e) refl
 
     module _ (taken : process_cause_taken c.cause ≡ true) where
       -- A bad proposal: 6.
-      pub process_bad : proposal_ok (limit_of (table_of l.table)) kind objects ≡ false → Leaves as_it_is said l (nothing BadProposal) l
+      pub process_bad : proposal_ok (limit_of (table_of l.table)) kind objects ≡ false → Leaves as_it_is said l (nothing (Err BadProposal)) l
       unfolding process_from
-      process_bad e = ends_refused said l w BadProposal (simp (taken, e)) refl
+      process_bad e = ends_refused said l w (Err BadProposal) (simp (taken, e)) refl
 
       module _ (ok : proposal_ok (limit_of (table_of l.table)) kind objects ≡ true) where
         -- What is said, and the memory with its table.
-        said_done : (said (table_of l.table)).outcome ≡ Done
+        said_done : (said (table_of l.table)).outcome ≡ done
         unfolding process_from
         said_done = simp (taken, ok)
 
@@ -136,12 +137,12 @@ module _ (l : Lent) (negative : Bool) (kind : ℕ) (objects us : List ℕ) (c : 
         answer_length = ap size said_answer ∙ ap length (wire_one confirmed) ∙ length_confirmed c (proposal_of negative kind objects []) (whole_reply _ kind objects ok)
 
         -- The spontaneous memory is short: 5.
-        pub process_untold : length l.spontaneous < size tells → Leaves as_it_is said l (nothing SpontaneousShort) l
+        pub process_untold : length l.spontaneous < size tells → Leaves as_it_is said l (nothing (Err SpontaneousShort)) l
         process_untold h = let e = ap size said_told in ends_untold said l w said_done (omega arith)
 
         -- The answer memory is short: 4.
         pub process_unanswered : size tells ≤ length l.spontaneous → length l.answer < header_octets + length objects
-            → Leaves as_it_is said l (nothing AnswerShort) l
+            → Leaves as_it_is said l (nothing (Err AnswerShort)) l
         process_unanswered k h =
             let e = ap size said_told in
             let f = answer_length in
@@ -151,7 +152,7 @@ module _ (l : Lent) (negative : Bool) (kind : ℕ) (objects us : List ℕ) (c : 
         pub process_done : (table answer spontaneous : List ℕ) (n k : ℕ) → Puts (asdu_octets confirmed) l.answer n answer → header_octets + length objects ≤ length l.answer
             → k ≡ size tells → k ≤ length l.spontaneous
             → table ≡ stored → spontaneous ≡ over l.spontaneous 0 (wire tells)
-            → Leaves as_it_is said l (record { outcome = Done; octets = n; spontaneous = k }) (lent table l.clock answer spontaneous)
+            → Leaves as_it_is said l (record { outcome = done; octets = n; spontaneous = k }) (lent table l.clock answer spontaneous)
         process_done table answer spontaneous n k p ln ek lk et es =
             let e = ap size said_told in
             let f = answer_length in
@@ -164,13 +165,13 @@ module _ (l : Lent) (negative : Bool) (kind : ℕ) (objects us : List ℕ) (c : 
 -- ---- what was read
 
 -- No command was read: its number.
-pub process_unread : (l : Lent) (p : Proposal) → well_formed l.table ≡ true → (x : Reading) → ((c : Command) → x ≡ Parsed c → ⊥)
+pub process_unread : (l : Lent) (p : Proposal) → well_formed l.table ≡ true → (x : Reading) → ((c : Command) → x ≡ Ok c → ⊥)
     → Leaves as_it_is (process_from l.clock p x) l (nothing (outcome_of x)) l
 unfolding process_from
-process_unread l p w LengthOutOfRange k = ends_refused _ l w (outcome_of LengthOutOfRange) refl refl
-process_unread l p w TypeNotServed k = ends_refused _ l w (outcome_of TypeNotServed) refl refl
-process_unread l p w ObjectsNotWhole k = ends_refused _ l w (outcome_of ObjectsNotWhole) refl refl
-process_unread l p w (Parsed c) k = absurd (k c refl)
+process_unread l p w (Err LengthOutOfRange) k = ends_refused _ l w (outcome_of (Err LengthOutOfRange)) refl refl
+process_unread l p w (Err TypeNotServed) k = ends_refused _ l w (outcome_of (Err TypeNotServed)) refl refl
+process_unread l p w (Err ObjectsNotWhole) k = ends_refused _ l w (outcome_of (Err ObjectsNotWhole)) refl refl
+process_unread l p w (Ok c) k = absurd (k c refl)
 
 -- What is met of what was read is met of the ASDU.
 pub process_read : (l l' : Lent) (p : Proposal) (m : List ℕ) (r : Answered) (x : Reading) → well_formed l.table ≡ true

@@ -28,7 +28,8 @@ use Rattle.report.specs.Packing.{selected}
 use Rattle.report.specs.Selection.{selects}
 use Rattle.report.specs.Report.{report}
 use Rattle.report.specs.Order.{points_for}
-use Rattle.limits.specs.declared.outcome.Outcome.TheVariants.{AnswerShort}
+use Rattle.std.specs.Prelude.{Err}
+use Rattle.limits.specs.declared.outcome.Refusal.TheVariants.{AnswerShort}
 use Rattle.octets.specs.Over.{over}
 use Rattle.octets.proofs.Laws.{over_at}
 use Rattle.answers.proofs.Ends.{sends_nothing, sends_all}
@@ -122,7 +123,7 @@ module _ (t : Table) (c : Command) (m types : List ℕ) (cause : ℕ) (sel : Sel
 
   -- There is no room: nothing is written.
   pub no_room : wrote (length out) around around asked ≡ Short → (out' : List ℕ) → out' ≡ written out around around asked
-      → Sends (reported t c m types cause sel) out (nothing AnswerShort) out'
+      → Sends (reported t c m types cause sel) out (nothing (Err AnswerShort)) out'
   no_room e out' f =
       let s = data_short out around around asked e in
       let l = length_reported in

@@ -17,7 +17,8 @@ use Rattle.asdu.specs.Header.{Asdu, asdu_octets}
 use Rattle.asdu.specs.Puts.{Puts}
 use Rattle.report.specs.Single.{end_of_initialization_asdu, station_common_address}
 use Rattle.report.proofs.Single.{length_end}
-use Rattle.limits.specs.declared.outcome.Outcome.TheVariants.{AnswerShort}
+use Rattle.std.specs.Prelude.{Err}
+use Rattle.limits.specs.declared.outcome.Refusal.TheVariants.{AnswerShort}
 use Rattle.answers.specs.Said.{lent, Leaves, as_it_is, nothing, given}
 use Rattle.answers.specs.Start.{start_said}
 use Rattle.answers.proofs.Ends.{one_nothing, one_all, ends_says}
@@ -62,10 +63,10 @@ module _ (t a : List ℕ) (o : Octets t) (w : well_formed t ≡ true) where
   end = end_of_initialization_asdu (station_common_address (table_of t).stations)
 
   -- Fewer than ten octets of room: 4.
-  pub start_short : length a < 10 → Leaves as_it_is (start_said []) (lent t [] a []) (nothing AnswerShort) (lent t [] a [])
+  pub start_short : length a < 10 → Leaves as_it_is (start_said []) (lent t [] a []) (nothing (Err AnswerShort)) (lent t [] a [])
   start_short h =
       let n = length_end (station_common_address (table_of t).stations) in
-      ends_says (start_said []) (lent t [] a []) w o (end ∷ []) [] refl (nothing AnswerShort) [] a (one_nothing end a (omega arith)) refl
+      ends_says (start_said []) (lent t [] a []) w o (end ∷ []) [] refl (nothing (Err AnswerShort)) [] a (one_nothing end a (omega arith)) refl
 
   -- Ten octets at the front.
   pub start_done : 10 ≤ length a → (ca n : ℕ) (a' : List ℕ) → ca ≡ common_address_at t (stations_from t) (stations_in t)

@@ -6,7 +6,9 @@ use native.Mathlib.Omega.{arith}
 use Rattle.limits.specs.Test.{total}
 use Rattle.limits.specs.Share.{held_of, admission_in, Sound}
 use Rattle.limits.specs.declared.share.Share.{Share}
-use Rattle.limits.specs.declared.share.Admission.TheVariants.{Admitted}
+use Rattle.std.specs.Prelude.{Ok, Err}
+use Rattle.limits.specs.Outcome.{Outcome, done}
+use Rattle.limits.specs.declared.outcome.Refusal.TheVariants.{CeilingReached, NotAdmitted}
 use Rattle.limits.proofs.Shares.{admitted_has_place}
 use Rattle.table.specs.Table.{Station, Table, held, share_of}
 use Rattle.table.proofs.Parse.{Good}
@@ -15,7 +17,7 @@ use Rattle.table.proofs.Change.{Found, shares_split}
 
 -- Whoever is admitted finds an unused place.
 pub admitted_room : (t : Table) (ca : ℕ) (s : Station) → Good t → Found ca t.stations s
-    → admission_in t.capacity (map share_of t.stations) (share_of s) ≡ Admitted → total held t.stations < t.capacity
+    → admission_in t.capacity (map share_of t.stations) (share_of s) ≡ done → total held t.stations < t.capacity
 admitted_room t ca s g w a =
     let k : ℕ = t.capacity in
     let B : List Share = map share_of w.before in

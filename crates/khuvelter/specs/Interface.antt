@@ -1,7 +1,6 @@
 -- The C interface's plain numbers: what each entry's answer becomes at the boundary. DESIGN.md, section 5.
 use Rattle.std.specs.Prelude.{Bool, not, eqb, ℕ, ◌%◌}
-use Rattle.limits.specs.Outcome.{number_of}
-use Rattle.limits.specs.declared.outcome.Outcome.{Outcome}
+use Rattle.limits.specs.Outcome.{Outcome, number_of}
 use Rattle.registry.specs.declared.Reply as registry
 use Rattle.registry.specs.declared.StationShare.{StationShare}
 use Rattle.answers.specs.declared.Answered.{Answered}

@@ -12,8 +12,9 @@ use Rattle.limits.specs.Test.{◌&◌, pick}
 use Rattle.limits.specs.Size.{point_octets}
 use Rattle.limits.proofs.Tests.{both, join}
 use Rattle.limits.proofs.Sizes.{point_at_most}
-use Rattle.limits.specs.declared.outcome.Outcome.{Outcome}
-use Rattle.limits.specs.declared.outcome.Outcome.TheVariants.{Done, UnknownTypeOrAddress, StationNotPlanned, GroupOutOfRange, CounterGroupOutOfRange, NotCounter}
+use Rattle.std.specs.Prelude.{Err}
+use Rattle.limits.specs.Outcome.{Outcome, done}
+use Rattle.limits.specs.declared.outcome.Refusal.TheVariants.{UnknownTypeOrAddress, StationNotPlanned, GroupOutOfRange, CounterGroupOutOfRange, NotCounter}
 use Rattle.octets.specs.Over.{over}
 use Rattle.octets.specs.Number.{zeros}
 use Rattle.octets.proofs.At.{are_zeros}
@@ -69,7 +70,7 @@ pub record Faultless (planned : Bool) (q : Request) : Type 0 where
   pub counted : counter_ok q.kind q.counter ≡ true
 
 all_five : (a p g c k : Bool)
-    → pick a (pick p (pick g (pick c (pick k Done NotCounter) CounterGroupOutOfRange) GroupOutOfRange) StationNotPlanned) UnknownTypeOrAddress ≡ Done
+    → pick a (pick p (pick g (pick c (pick k done (Err NotCounter)) (Err CounterGroupOutOfRange)) (Err GroupOutOfRange)) (Err StationNotPlanned)) (Err UnknownTypeOrAddress) ≡ done
     → (a ≡ true) × (p ≡ true) × (g ≡ true) × (c ≡ true) × (k ≡ true)
 all_five true true true true true e = (refl, refl, refl, refl, refl)
 all_five true true true true false e = absurd (let z : ◌≡◌ {A = ℕ} 0 1 = cc in omega arith)
@@ -78,7 +79,7 @@ all_five true true false c k e = absurd (let z : ◌≡◌ {A = ℕ} 0 1 = cc in
 all_five true false g c k e = absurd (let z : ◌≡◌ {A = ℕ} 0 1 = cc in omega arith)
 all_five false p g c k e = absurd (let z : ◌≡◌ {A = ℕ} 0 1 = cc in omega arith)
 
-pub faultless : (planned : Bool) (q : Request) → own_fault planned q ≡ Done → Faultless planned q
+pub faultless : (planned : Bool) (q : Request) → own_fault planned q ≡ done → Faultless planned q
 unfolding own_fault
 faultless planned q e =
     let t = all_five (leb 1 (point_octets q.kind) & leb q.ioa 16777215) planned (group_ok 16 q.group) (group_ok 4 q.counter) (counter_ok q.kind q.counter) e in
@@ -119,7 +120,7 @@ faultless_point q l f =
     (join (le-leb _ _ (group_at_most 4 q.counter f.counter))
     (join (counter_fits q.kind q.counter f.counted) (element_zeros q.value e l h))))))
 
-pub done_point : (q : Request) → length q.value ≡ 12 → own_fault true q ≡ Done → point_ok (point_of q) ≡ true
+pub done_point : (q : Request) → length q.value ≡ 12 → own_fault true q ≡ done → point_ok (point_of q) ≡ true
 done_point q l e = faultless_point q l (faultless true q e)
 
 -- The point keeps the address and the type.
@@ -135,18 +136,18 @@ point_kind q = refl
 
 -- Its fault is number 11 or 12.
 pub data Unplanned (o : Outcome) : Type 0 where
-  unknown : o ≡ UnknownTypeOrAddress → Unplanned o
-  station : o ≡ StationNotPlanned → Unplanned o
+  unknown : o ≡ (Err UnknownTypeOrAddress) → Unplanned o
+  station : o ≡ (Err StationNotPlanned) → Unplanned o
 
 pub unplanned : (q : Request) → Unplanned (own_fault false q)
 unfolding own_fault
 unplanned q = go (leb 1 (point_octets q.kind) & leb q.ioa 16777215)
   where
-    go : (b : Bool) → Unplanned (pick b StationNotPlanned UnknownTypeOrAddress)
+    go : (b : Bool) → Unplanned (pick b (Err StationNotPlanned) (Err UnknownTypeOrAddress))
     go true = station refl
     go false = unknown refl
 
 -- Where it passes test 11 it is number 12.
-pub unplanned_station : (q : Request) → 1 ≤ point_octets q.kind → q.ioa ≤ 16777215 → own_fault false q ≡ StationNotPlanned
+pub unplanned_station : (q : Request) → 1 ≤ point_octets q.kind → q.ioa ≤ 16777215 → own_fault false q ≡ (Err StationNotPlanned)
 unfolding own_fault ◌&◌
 unplanned_station q h k = simp (le-leb _ _ h, le-leb _ _ k)

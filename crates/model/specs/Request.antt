@@ -1,10 +1,10 @@
 -- A point as a caller gives it for registration: the record, its own tests 11 to 15, the point that it becomes, and the flat form of 24 octets.
 -- Document 01, 'Points, stations and shares' and 'Numbers given back'; DESIGN.md, section 5.
-use Rattle.std.specs.Prelude.{ℕ, zero, suc, ◌+◌, ◌-◌, List, [], ◌∷◌, ◌++◌, Bool, true, take, get_or, replicate, leb, eqb}
+use Rattle.std.specs.Prelude.{ℕ, zero, suc, ◌+◌, ◌-◌, List, [], ◌∷◌, ◌++◌, Bool, true, take, get_or, replicate, leb, eqb, Err}
 use Rattle.limits.specs.Test.{◌&◌, pick}
 use Rattle.limits.specs.Size.{point_octets}
-use Rattle.limits.specs.declared.outcome.Outcome.{Outcome}
-use Rattle.limits.specs.declared.outcome.Outcome.TheVariants.{Done, UnknownTypeOrAddress, StationNotPlanned, GroupOutOfRange, CounterGroupOutOfRange, NotCounter}
+use Rattle.limits.specs.Outcome.{Outcome, done}
+use Rattle.limits.specs.declared.outcome.Refusal.TheVariants.{UnknownTypeOrAddress, StationNotPlanned, GroupOutOfRange, CounterGroupOutOfRange, NotCounter}
 use Rattle.octets.specs.Number.{two, four, twelve}
 use Rattle.model.specs.declared.Point.{Point}
 use Rattle.model.specs.declared.Group.{Group}
@@ -30,11 +30,11 @@ own_fault planned q =
     (pick planned
     (pick (group_ok groups q.group)
     (pick (group_ok counter_groups q.counter)
-    (pick (counter_ok q.kind q.counter) Done NotCounter)
-    CounterGroupOutOfRange)
-    GroupOutOfRange)
-    StationNotPlanned)
-    UnknownTypeOrAddress
+    (pick (counter_ok q.kind q.counter) done (Err NotCounter))
+    (Err CounterGroupOutOfRange))
+    (Err GroupOutOfRange))
+    (Err StationNotPlanned))
+    (Err UnknownTypeOrAddress)
 
 -- The number that a place keeps for a group: 0 for none.
 abbrev pub group_number : Group → ℕ

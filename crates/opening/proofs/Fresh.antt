@@ -10,8 +10,9 @@ use lib.ListN.{length, drop, replicate, length-append, length-drop, length-repli
 use borrow.Author.Tests.{eqb-true, eq-eqb, leb-true, le-leb}
 use Rattle.limits.specs.Test.{◌&◌, pick, total}
 use Rattle.limits.specs.Share.{Sound}
-use Rattle.limits.specs.Outcome.{number_of}
-use Rattle.limits.specs.declared.outcome.Outcome.TheVariants.{Done, InvalidPlan}
+use Rattle.std.specs.Prelude.{Err}
+use Rattle.limits.specs.Outcome.{done, number_of}
+use Rattle.limits.specs.declared.outcome.Refusal.TheVariants.{InvalidPlan}
 use Rattle.limits.proofs.Tests.{both, join}
 use Rattle.limits.proofs.Shares.{NothingHeld}
 use Rattle.octets.specs.Over.{over}
@@ -210,14 +211,14 @@ pub refused : (k : ℕ) (plan m : List ℕ) → opens k plan (length m) ≡ fals
 refused k plan m t = simp t
 
 -- Done is given exactly if the table opens.
-pub done_opens : (k : ℕ) (plan m : List ℕ) → open_outcome k plan m ≡ Done → opens k plan (length m) ≡ true
+pub done_opens : (k : ℕ) (plan m : List ℕ) → open_outcome k plan m ≡ done → opens k plan (length m) ≡ true
 done_opens k plan m e = by_test (opens k plan (length m)) (ap number_of e)
   where
-    by_test : (b : Bool) → number_of (pick b Done InvalidPlan) ≡ 0 → b ≡ true
+    by_test : (b : Bool) → number_of (pick b done (Err InvalidPlan)) ≡ 0 → b ≡ true
     by_test true f = refl
     by_test false f = absurd (omega arith)
 
-pub opens_done : (k : ℕ) (plan m : List ℕ) → opens k plan (length m) ≡ true → open_outcome k plan m ≡ Done
+pub opens_done : (k : ℕ) (plan m : List ℕ) → opens k plan (length m) ≡ true → open_outcome k plan m ≡ done
 opens_done k plan m t = simp t
 
 -- What was opened is read back as the fresh table.

@@ -9,9 +9,9 @@ use lib.Seq.{take_all, length-take-le}
 use lib.Dec.{ltb, eqb}
 use borrow.Author.Tests.{lt-ltb, le-ltb, ltb-true, ltb-false, ne_eqb}
 use Rattle.limits.specs.Test.{◌&◌, pick}
-use Rattle.limits.specs.Outcome.{number_of, is_done}
-use Rattle.limits.specs.declared.outcome.Outcome.{Outcome}
-use Rattle.limits.specs.declared.outcome.Outcome.TheVariants.{Done, TableNotWellFormed, AddressTwice, AlreadyRegistered}
+use Rattle.std.specs.Prelude.{Err}
+use Rattle.limits.specs.Outcome.{Outcome, done, is_done, number_of}
+use Rattle.limits.specs.declared.outcome.Refusal.TheVariants.{TableNotWellFormed, AddressTwice, AlreadyRegistered}
 use Rattle.limits.proofs.Outcomes.{not_both, done_is}
 use Rattle.octets.specs.Number.{Octets}
 use Rattle.model.specs.declared.Request.{Request}
@@ -107,7 +107,7 @@ unfolding own_tests
 alone t q = by_test (is_done (batch_fault t [] q)) refl
   where
     passes : Reply
-    passes = record { outcome = Done; place = 0 }
+    passes = record { outcome = done; place = 0 }
 
     fails : Reply
     fails = record { outcome = batch_fault t [] q; place = 0 }
@@ -117,23 +117,23 @@ alone t q = by_test (is_done (batch_fault t [] q)) refl
     by_test false d = refl
 
 twice_cases : (own : Outcome) (known found : Bool) → number_of own < 16
-    → with_twice (first_fault own (first_fault Done (pick known AlreadyRegistered Done))) found
-    ≡ first_fault own (first_fault (pick found AddressTwice Done) (pick known AlreadyRegistered Done))
+    → with_twice (first_fault own (first_fault done (pick known (Err AlreadyRegistered) done))) found
+    ≡ first_fault own (first_fault (pick found (Err AddressTwice) done) (pick known (Err AlreadyRegistered) done))
 unfolding with_twice
 twice_cases own known found low = by_test (is_done own) refl found
   where
     not_known : eqb (number_of own) 17 ≡ false
     not_known = ne_eqb (number_of own) 17 (λ (e : number_of own ≡ 17). absurd (omega arith))
 
-    when_done : (known found : Bool) → with_twice (pick known AlreadyRegistered Done) found ≡ first_fault (pick found AddressTwice Done) (pick known AlreadyRegistered Done)
+    when_done : (known found : Bool) → with_twice (pick known (Err AlreadyRegistered) done) found ≡ first_fault (pick found (Err AddressTwice) done) (pick known (Err AlreadyRegistered) done)
     when_done true true = refl
     when_done true false = refl
     when_done false true = refl
     when_done false false = refl
 
     by_test : (b : Bool) → is_done own ≡ b → (found : Bool)
-        → with_twice (pick b (first_fault Done (pick known AlreadyRegistered Done)) own) found
-        ≡ pick b (first_fault (pick found AddressTwice Done) (pick known AlreadyRegistered Done)) own
+        → with_twice (pick b (first_fault done (pick known (Err AlreadyRegistered) done)) own) found
+        ≡ pick b (first_fault (pick found (Err AddressTwice) done) (pick known (Err AlreadyRegistered) done)) own
     by_test true d f = when_done known f
     by_test false d true = simp (d, not_known)
     by_test false d false = refl
@@ -145,12 +145,12 @@ fault_law m e p found w f =
     let t = table_of m in
     let s = station_of p.ca t.stations in
     simp w (ap (λ (o : Outcome). with_twice o found) (alone t (whole p)) ∙ twice_cases (own_fault (is_planned s) (whole p)) (is_registered p.ioa s) found (own_low (is_planned s) (whole p))
-    ∙ ap (λ (b : Bool). first_fault (own_fault (is_planned s) (whole p)) (first_fault (pick b AddressTwice Done) (pick (is_registered p.ioa s) AlreadyRegistered Done))) f)
+    ∙ ap (λ (b : Bool). first_fault (own_fault (is_planned s) (whole p)) (first_fault (pick b (Err AddressTwice) done) (pick (is_registered p.ioa s) (Err AlreadyRegistered) done))) f)
 
 -- ---- the tests of all
 
 abbrev going : ℕ → Later
-going k = record { count = k; outcome = Done; done = false }
+going k = record { count = k; outcome = done; done = false }
 
 first_passes : (m : List ℕ) (k : ℕ) (p : Request) (f : Search) → k < 4097 → judged m (going k) p f ≡ going (k + 1)
 unfolding judged passed
@@ -317,7 +317,7 @@ module _ (ts : List ℕ) (ps : List Request) where
   told = (folded ps ts (going 0) ps).state
 
   -- few points: none is a later one
-  told_few : length ps ≤ 4097 → told.outcome ≡ Done
+  told_few : length ps ≤ 4097 → told.outcome ≡ done
   unfolding folded
   told_few h = ap (λ (l : List Request). (folded ps ts (going 0) l).state.outcome) (sym (append-nil ps)) ∙ ap (λ (z : Both). z.state.outcome) (skip ps ts ps [] 0 (omega arith))
 
@@ -353,7 +353,7 @@ module _ (ts : List ℕ) (ps : List Request) where
           same_effect ts (table_of ts) told _ _ (ap (λ (l : List Request). registering_all (map whole l) (table_of ts)) (sym (take_all 4097 ps h)))
           (answer_done told (reply_of (registering_all (map whole x) (table_of ts))) (ap is_done (told_few h)))
 
-  no_table_reply : (f : Table → Effect) → well_formed ts ≡ false → reply_on f ts ≡ record { outcome = TableNotWellFormed; place = 0 }
+  no_table_reply : (f : Table → Effect) → well_formed ts ≡ false → reply_on f ts ≡ record { outcome = (Err TableNotWellFormed); place = 0 }
   unfolding reply_from
   no_table_reply f w = ap (reply_from f) (parse_none ts w)
 
@@ -391,10 +391,10 @@ module _ (ts : List ℕ) (ps : List Request) where
 
       by_test : (c : Bool) → well_formed ts ≡ c → Answers ts ps z ts'
       by_test true w =
-          let start : s ≡ going 0 = es ∙ ap (λ (b : Bool). record { count = 0; outcome = Done; done = not b }) w in
+          let start : s ≡ going 0 = es ∙ ap (λ (b : Bool). record { count = 0; outcome = done; done = not b }) w in
           let l-is : l ≡ told = tested.0 ∙ ap (λ (q : Later). (folded ps ts q ps).state) start in
           let law = answer_law o w (omega arith) in
           (ez ∙ (λ i. answer_of (l-is i) ((a_is ∙ table_reply A w) i)) ∙ law.0 ∙ sym (table_reply B w), m_is ∙ table_memory A w ∙ law.1 ∙ sym (table_memory B w))
       by_test false w =
-          let r : a ≡ record { outcome = TableNotWellFormed; place = 0 } = a_is ∙ no_table_reply A w in
-          (ez ∙ ap (answer_of l) r ∙ answer_low l (record { outcome = TableNotWellFormed; place = 0 }) (ltb-true 3 19 refl) ∙ sym (no_table_reply B w), m_is ∙ no_table_memory A w ∙ sym (no_table_memory B w))
+          let r : a ≡ record { outcome = (Err TableNotWellFormed); place = 0 } = a_is ∙ no_table_reply A w in
+          (ez ∙ ap (answer_of l) r ∙ answer_low l (record { outcome = (Err TableNotWellFormed); place = 0 }) (ltb-true 3 19 refl) ∙ sym (no_table_reply B w), m_is ∙ no_table_memory A w ∙ sym (no_table_memory B w))

@@ -11,13 +11,10 @@ use lib.Dec.{ltb, leb}
 use borrow.Author.Tests.{ltb-true}
 use Rattle.limits.specs.Test.{◌&◌, pick, total}
 use Rattle.limits.specs.Size.{point_octets}
-use Rattle.limits.specs.Outcome.{number_of, is_done}
+use Rattle.std.specs.Prelude.{Ok, Err}
+use Rattle.limits.specs.Outcome.{Outcome, done, is_done, number_of}
+use Rattle.limits.specs.declared.outcome.Refusal.TheVariants.{UnknownTypeOrAddress, StationNotPlanned, GroupOutOfRange, CounterGroupOutOfRange, NotCounter, AddressTwice, AlreadyRegistered, CeilingReached, NotAdmitted}
 use Rattle.limits.specs.Share.{admission_in}
-use Rattle.limits.specs.declared.share.Admission.{Admission}
-use Rattle.limits.specs.declared.share.Admission.TheVariants.{Admitted, NoRoom}
-use Rattle.limits.specs.declared.share.Admission.TheVariants as admission
-use Rattle.limits.specs.declared.outcome.Outcome.{Outcome}
-use Rattle.limits.specs.declared.outcome.Outcome.TheVariants.{Done, UnknownTypeOrAddress, StationNotPlanned, GroupOutOfRange, CounterGroupOutOfRange, NotCounter, AddressTwice, AlreadyRegistered}
 use Rattle.limits.proofs.Outcomes.{not_both, done_is}
 use Rattle.model.specs.declared.Request.{Request}
 use Rattle.model.specs.Request.{own_fault, point_of, group_ok, counter_ok}
@@ -66,7 +63,7 @@ own_append t e i (q ∷ a) b = by_test (own_append t (q ∷ e) (i + 1) a b) (is_
 -- ---- the numbers of own tests are below 19
 
 five : (a p g c k : Bool)
-    → ltb (number_of (pick a (pick p (pick g (pick c (pick k Done NotCounter) CounterGroupOutOfRange) GroupOutOfRange) StationNotPlanned) UnknownTypeOrAddress)) 16 ≡ true
+    → ltb (number_of (pick a (pick p (pick g (pick c (pick k done (Err NotCounter)) (Err CounterGroupOutOfRange)) (Err GroupOutOfRange)) (Err StationNotPlanned)) (Err UnknownTypeOrAddress))) 16 ≡ true
 five true true true true true = refl
 five true true true true false = refl
 five true true true false k = refl
@@ -86,11 +83,11 @@ first_low a b x y = by_test (is_done a)
     by_test true = y
     by_test false = x
 
-twice_low : (b : Bool) → number_of (pick b AddressTwice Done) < 19
+twice_low : (b : Bool) → number_of (pick b (Err AddressTwice) done) < 19
 twice_low true = ltb-true 16 19 refl
 twice_low false = ltb-true 0 19 refl
 
-known_low : (b : Bool) → number_of (pick b AlreadyRegistered Done) < 19
+known_low : (b : Bool) → number_of (pick b (Err AlreadyRegistered) done) < 19
 known_low true = ltb-true 17 19 refl
 known_low false = ltb-true 0 19 refl
 
@@ -99,8 +96,8 @@ unfolding batch_fault
 batch_low t e q =
     let s : Option Station = station_of q.ca t.stations in
     let own : Outcome = own_fault (is_planned s) q in
-    let twice : Outcome = pick (stands_in q e) AddressTwice Done in
-    let known : Outcome = pick (is_registered q.ioa s) AlreadyRegistered Done in
+    let twice : Outcome = pick (stands_in q e) (Err AddressTwice) done in
+    let known : Outcome = pick (is_registered q.ioa s) (Err AlreadyRegistered) done in
     let o : number_of own < 16 = own_low (is_planned s) q in
     let o' : number_of own < 19 = omega arith in
     first_low own (first_fault twice known) o' (first_low twice known (twice_low (stands_in q e)) (known_low (is_registered q.ioa s)))
@@ -146,7 +143,7 @@ held_more t q s e =
     omega arith
 
 -- Where all have room, they are no more than a table can hold.
-pub room_fits : (t : Table) (i : ℕ) (qs : List Request) → Good t → Ready t qs → AllTwelve qs → (room_tests t i qs).outcome ≡ Done → total held t.stations + length qs ≤ 4096
+pub room_fits : (t : Table) (i : ℕ) (qs : List Request) → Good t → Ready t qs → AllTwelve qs → (room_tests t i qs).outcome ≡ done → total held t.stations + length qs ≤ 4096
 unfolding AllTwelve room_tests
 room_fits t i [] g r w e = let f = g.few in let k = g.k_high in omega arith
 room_fits t i (q ∷ qs) g (ready_more p x y) w e =
@@ -157,22 +154,22 @@ room_fits t i (q ∷ qs) g (ready_more p x y) w e =
     omega arith)
     (is_done (room_fault t (station_of q.ca t.stations))) refl e
   where
-    by_test : (room_fault t (station_of q.ca t.stations) ≡ Done → (room_tests (with_request t q) (i + 1) qs).outcome ≡ Done → total held t.stations + suc (length qs) ≤ 4096)
+    by_test : (room_fault t (station_of q.ca t.stations) ≡ done → (room_tests (with_request t q) (i + 1) qs).outcome ≡ done → total held t.stations + suc (length qs) ≤ 4096)
         → (b : Bool) → is_done (room_fault t (station_of q.ca t.stations)) ≡ b
-        → (pick b (room_tests (with_request t q) (i + 1) qs) (refused (room_fault t (station_of q.ca t.stations)) i t)).outcome ≡ Done
+        → (pick b (room_tests (with_request t q) (i + 1) qs) (refused (room_fault t (station_of q.ca t.stations)) i t)).outcome ≡ done
         → total held t.stations + suc (length qs) ≤ 4096
     by_test ih true d e' = ih (done_is _ d) e'
     by_test ih false d e' = not_both (sym d ∙ ap is_done e')
 
-admission_high : (a : Admission) → is_done (admission_outcome a) ≡ false → ltb (number_of (admission_outcome a)) 19 ≡ false
-admission_high Admitted d = not_both (sym d)
-admission_high admission.CeilingReached d = refl
-admission_high NoRoom d = refl
+admission_high : (a : Outcome) → is_done (admission_outcome a) ≡ false → ltb (number_of (admission_outcome a)) 19 ≡ false
+admission_high done d = not_both (sym d)
+admission_high (Err CeilingReached) d = refl
+admission_high (Err NotAdmitted) d = refl
 
 fault_high : (t : Table) (o : Option Station) (s : Station) → o ≡ some s → is_done (room_fault t o) ≡ false → ltb (number_of (room_fault t o)) 19 ≡ false
 unfolding room_fault
 fault_high t o s e d =
-    let a : Admission = admission_in t.capacity (map share_of t.stations) (share_of s) in
+    let a : Outcome = admission_in t.capacity (map share_of t.stations) (share_of s) in
     let f : room_fault t o ≡ admission_outcome a = ap (room_fault t) e in
     ap (λ (x : Outcome). ltb (number_of x) 19) f ∙ admission_high a (ap is_done (sym f) ∙ d)
 

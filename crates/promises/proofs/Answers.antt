@@ -9,9 +9,9 @@ use native.Mathlib.Omega.{arith}
 use lib.ListN.{length, drop}
 use borrow.Author.Tests.{leb-true}
 use Rattle.limits.specs.Test.{pick}
-use Rattle.limits.specs.Outcome.{number_of, is_done}
-use Rattle.limits.specs.declared.outcome.Outcome.{Outcome}
-use Rattle.limits.specs.declared.outcome.Outcome.TheVariants.{Done, AnswerShort, SpontaneousShort, InvalidPlan}
+use Rattle.std.specs.Prelude.{Err}
+use Rattle.limits.specs.Outcome.{Outcome, done, is_done, number_of}
+use Rattle.limits.specs.declared.outcome.Refusal.TheVariants.{AnswerShort, SpontaneousShort, InvalidPlan}
 use Rattle.limits.proofs.Outcomes.{not_both, first_done, done_is}
 use Rattle.octets.specs.Number.{Octets}
 use Rattle.table.specs.Table.{Station, Table}
@@ -51,7 +51,7 @@ effect_refusal f l =
 open_refusal : (k : ℕ) (plan : List ℕ) (l : Lent) → Refusal (number_of (open_outcome k plan l.table)) 0 0 l (with_memory (opened_memory k plan l.table) l)
 open_refusal k plan l = by_test (opens k plan (length l.table)) _
   where
-    by_test : (b : Bool) (n : List ℕ) → Refusal (number_of (pick b Done InvalidPlan)) 0 0 l (with_memory (pick b n l.table) l)
+    by_test : (b : Bool) (n : List ℕ) → Refusal (number_of (pick b done (Err InvalidPlan))) 0 0 l (with_memory (pick b n l.table) l)
     by_test true n = record { reports_nothing = λ z. (refl, refl); changes_nothing = λ z. not_both (sym z) }
     by_test false n = record { reports_nothing = λ z. (refl, refl); changes_nothing = λ z. refl }
 
@@ -77,20 +77,20 @@ said_beyond f l = by_test (is_done (answered_on f l).outcome) refl
 
 -- ---- what is told lies in its memory, so that in one of less than 2^32 octets it is reported whole; answers are small (Small.antt)
 
-fits_is : (asdus : List Asdu) (memory : List ℕ) (o : Outcome) → is_done o ≡ false → pick (fits asdus memory) Done o ≡ Done → size asdus ≤ length memory
+fits_is : (asdus : List Asdu) (memory : List ℕ) (o : Outcome) → is_done o ≡ false → pick (fits asdus memory) done o ≡ done → size asdus ≤ length memory
 fits_is asdus memory o n e = by_test (fits asdus memory) refl e
   where
-    by_test : (b : Bool) → fits asdus memory ≡ b → pick b Done o ≡ Done → size asdus ≤ length memory
+    by_test : (b : Bool) → fits asdus memory ≡ b → pick b done o ≡ done → size asdus ≤ length memory
     by_test true t e' = leb-true _ _ t
     by_test false t e' = not_both (sym n ∙ ap is_done e')
 
-told_fits : (s : Said) (l : Lent) → outcome_with s l ≡ Done → size s.told ≤ length l.spontaneous
+told_fits : (s : Said) (l : Lent) → outcome_with s l ≡ done → size s.told ≤ length l.spontaneous
 unfolding outcome_with
 told_fits s l e =
-    let told : Outcome = pick (fits s.told l.spontaneous) Done SpontaneousShort in
-    let answered : Outcome = pick (fits s.answer l.answer) Done AnswerShort in
+    let told : Outcome = pick (fits s.told l.spontaneous) done (Err SpontaneousShort) in
+    let answered : Outcome = pick (fits s.answer l.answer) done (Err AnswerShort) in
     let d = first_done told answered (first_done s.outcome (first_fault told answered) e).1 in
-    fits_is s.told l.spontaneous SpontaneousShort refl d.0
+    fits_is s.told l.spontaneous (Err SpontaneousShort) refl d.0
 
 module _ (f : Table → Said) (l : Lent) where
   told_within : (t : Option Table) → (answered_from f l t).spontaneous ≤ length l.spontaneous

@@ -9,7 +9,7 @@ use lib.ListN.{length, drop, replicate, length-replicate}
 use lib.Dec.{eqb}
 use borrow.Author.Tests.{eqb-true}
 use Rattle.limits.specs.Test.{◌&◌, pick, total}
-use Rattle.limits.specs.Outcome.{number_of, is_done}
+use Rattle.limits.specs.Outcome.{is_done, number_of}
 use Rattle.limits.specs.Size.{point_types, system_types, process_types, end_types, named_types, point_octets, element_octets, octets_in, listed, class_of}
 use Rattle.limits.proofs.Tests.{both}
 use Rattle.limits.proofs.Outcomes.{not_both}

@@ -23,7 +23,7 @@ use Rattle.table.proofs.Change.{station_found, station_rises}
 use Rattle.registry.specs.Effect.{holding}
 use Rattle.asdu.specs.Header.{Asdu}
 use Rattle.asdu.specs.declared.command.Command.{Command}
-use Rattle.asdu.specs.declared.command.Reading.{Reading}
+use Rattle.asdu.specs.Command.{Reading}
 use Rattle.report.specs.declared.Selection.{Selection}
 use Rattle.report.specs.Packing.{selected}
 use Rattle.report.specs.Selection.{selects, among, interrogation_types, interrogation_types_of}

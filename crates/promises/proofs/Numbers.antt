@@ -9,14 +9,13 @@ use lib.ListN.{length}
 use lib.Dec.{leb, eqb}
 use borrow.Author.Tests.{le-leb}
 use Rattle.limits.specs.Test.{◌&◌, pick}
-use Rattle.limits.specs.Outcome.{number_of, is_done}
+use Rattle.std.specs.Prelude.{Ok, Err}
+use Rattle.limits.specs.Outcome.{Outcome, done, is_done, number_of}
+use Rattle.limits.specs.declared.outcome.Refusal.TheVariants.{Silent, Malformed, TableNotWellFormed, AnswerShort, SpontaneousShort, BadProposal, InvalidPlan, UnknownTypeOrAddress, StationNotPlanned, GroupOutOfRange, CounterGroupOutOfRange, NotCounter, AddressTwice, AlreadyRegistered, NotRegistered, CeilingReached, NotAdmitted}
+use Rattle.asdu.specs.Command.{Reading}
+use Rattle.asdu.specs.declared.command.Unread.TheVariants.{LengthOutOfRange, TypeNotServed, ObjectsNotWhole}
 use Rattle.limits.specs.Size.{point_octets}
 use Rattle.limits.specs.Share.{admission_in}
-use Rattle.limits.specs.declared.share.Admission.{Admission}
-use Rattle.limits.specs.declared.share.Admission.TheVariants.{Admitted, NoRoom}
-use Rattle.limits.specs.declared.share.Admission.TheVariants as admission
-use Rattle.limits.specs.declared.outcome.Outcome.{Outcome}
-use Rattle.limits.specs.declared.outcome.Outcome.TheVariants.{Done, Silent, Malformed, TableNotWellFormed, AnswerShort, SpontaneousShort, BadProposal, InvalidPlan, UnknownTypeOrAddress, StationNotPlanned, GroupOutOfRange, CounterGroupOutOfRange, NotCounter, AddressTwice, AlreadyRegistered, NotRegistered, CeilingReached, NotAdmitted}
 use Rattle.model.specs.declared.Request.{Request}
 use Rattle.model.specs.Request.{group_ok, counter_ok, own_fault, request_at}
 use Rattle.table.specs.Table.{Station, Table, share_of}
@@ -30,8 +29,6 @@ use Rattle.registry.specs.Registry.{is_planned, is_registered, admission_outcome
 use Rattle.registry.specs.Opening.{opens}
 use Rattle.batch_records.specs.Records.{requests_in}
 use Rattle.asdu.specs.declared.command.Command.{Command}
-use Rattle.asdu.specs.declared.command.Reading.{Reading}
-use Rattle.asdu.specs.declared.command.Reading.TheVariants.{LengthOutOfRange, TypeNotServed, ObjectsNotWhole, Parsed}
 use Rattle.asdu.specs.Header.{Asdu}
 use Rattle.asdu.proofs.Laws.{wire_none}
 use Rattle.answers.specs.Said.{Said, Lent, size, fits, outcome_with, answered_from, answered_on}
@@ -51,45 +48,45 @@ use Rattle.promises.specs.Answers.{numbers_of}
 -- the outcome with a number
 with_number : ℕ → Outcome
 with_number n =
-    pick (eqb n 0) Done
-    (pick (eqb n 1) Silent
-    (pick (eqb n 2) Malformed
-    (pick (eqb n 3) TableNotWellFormed
-    (pick (eqb n 4) AnswerShort
-    (pick (eqb n 5) SpontaneousShort
-    (pick (eqb n 6) BadProposal
-    (pick (eqb n 10) InvalidPlan
-    (pick (eqb n 11) UnknownTypeOrAddress
-    (pick (eqb n 12) StationNotPlanned
-    (pick (eqb n 13) GroupOutOfRange
-    (pick (eqb n 14) CounterGroupOutOfRange
-    (pick (eqb n 15) NotCounter
-    (pick (eqb n 16) AddressTwice
-    (pick (eqb n 17) AlreadyRegistered
-    (pick (eqb n 18) NotRegistered
-    (pick (eqb n 19) CeilingReached
-    NotAdmitted))))))))))))))))
+    pick (eqb n 0) done
+    (pick (eqb n 1) (Err Silent)
+    (pick (eqb n 2) (Err Malformed)
+    (pick (eqb n 3) (Err TableNotWellFormed)
+    (pick (eqb n 4) (Err AnswerShort)
+    (pick (eqb n 5) (Err SpontaneousShort)
+    (pick (eqb n 6) (Err BadProposal)
+    (pick (eqb n 10) (Err InvalidPlan)
+    (pick (eqb n 11) (Err UnknownTypeOrAddress)
+    (pick (eqb n 12) (Err StationNotPlanned)
+    (pick (eqb n 13) (Err GroupOutOfRange)
+    (pick (eqb n 14) (Err CounterGroupOutOfRange)
+    (pick (eqb n 15) (Err NotCounter)
+    (pick (eqb n 16) (Err AddressTwice)
+    (pick (eqb n 17) (Err AlreadyRegistered)
+    (pick (eqb n 18) (Err NotRegistered)
+    (pick (eqb n 19) (Err CeilingReached)
+    (Err NotAdmitted)))))))))))))))))
 
 number_of_lem : (o : Outcome) → with_number (number_of o) ≡ o
 unfolding with_number
-number_of_lem Done = refl
-number_of_lem Silent = refl
-number_of_lem Malformed = refl
-number_of_lem TableNotWellFormed = refl
-number_of_lem AnswerShort = refl
-number_of_lem SpontaneousShort = refl
-number_of_lem BadProposal = refl
-number_of_lem InvalidPlan = refl
-number_of_lem UnknownTypeOrAddress = refl
-number_of_lem StationNotPlanned = refl
-number_of_lem GroupOutOfRange = refl
-number_of_lem CounterGroupOutOfRange = refl
-number_of_lem NotCounter = refl
-number_of_lem AddressTwice = refl
-number_of_lem AlreadyRegistered = refl
-number_of_lem NotRegistered = refl
-number_of_lem CeilingReached = refl
-number_of_lem NotAdmitted = refl
+number_of_lem done = refl
+number_of_lem (Err Silent) = refl
+number_of_lem (Err Malformed) = refl
+number_of_lem (Err TableNotWellFormed) = refl
+number_of_lem (Err AnswerShort) = refl
+number_of_lem (Err SpontaneousShort) = refl
+number_of_lem (Err BadProposal) = refl
+number_of_lem (Err InvalidPlan) = refl
+number_of_lem (Err UnknownTypeOrAddress) = refl
+number_of_lem (Err StationNotPlanned) = refl
+number_of_lem (Err GroupOutOfRange) = refl
+number_of_lem (Err CounterGroupOutOfRange) = refl
+number_of_lem (Err NotCounter) = refl
+number_of_lem (Err AddressTwice) = refl
+number_of_lem (Err AlreadyRegistered) = refl
+number_of_lem (Err NotRegistered) = refl
+number_of_lem (Err CeilingReached) = refl
+number_of_lem (Err NotAdmitted) = refl
 
 -- Two outcomes with one number are one.
 pub one_number : (a b : Outcome) → number_of a ≡ number_of b → a ≡ b
@@ -121,7 +118,7 @@ gives_said : (ns : List ℕ) (b : Bool) (x y : Said) → Gives ns x.outcome → 
 gives_said ns true x y p q = p
 gives_said ns false x y p q = q
 
-on_table : (ns : List ℕ) (f : Table → Effect) → Gives ns TableNotWellFormed → ((t : Table) → Gives ns (f t).outcome) → (m : List ℕ) → Gives ns (reply_on f m).outcome
+on_table : (ns : List ℕ) (f : Table → Effect) → Gives ns (Err TableNotWellFormed) → ((t : Table) → Gives ns (f t).outcome) → (m : List ℕ) → Gives ns (reply_on f m).outcome
 unfolding reply_from
 on_table ns f three g m = of_parsed (parse m)
   where
@@ -130,41 +127,41 @@ on_table ns f three g m = of_parsed (parse m)
     of_parsed (some t) = g t
 
 -- Registration: its own tests, and room.
-pub own_gives : (ns : List ℕ) → Gives ns Done → Gives ns UnknownTypeOrAddress → Gives ns StationNotPlanned → Gives ns GroupOutOfRange
-    → Gives ns CounterGroupOutOfRange → Gives ns NotCounter → (planned : Bool) (q : Request) → Gives ns (own_fault planned q)
+pub own_gives : (ns : List ℕ) → Gives ns done → Gives ns (Err UnknownTypeOrAddress) → Gives ns (Err StationNotPlanned) → Gives ns (Err GroupOutOfRange)
+    → Gives ns (Err CounterGroupOutOfRange) → Gives ns (Err NotCounter) → (planned : Bool) (q : Request) → Gives ns (own_fault planned q)
 unfolding own_fault
 own_gives ns d n11 n12 n13 n14 n15 planned q =
     gives_pick ns (leb 1 (point_octets q.kind) & leb q.ioa 16777215) _ _ (gives_pick ns planned _ _ (gives_pick ns (group_ok 16 q.group) _ _ (gives_pick ns (group_ok 4 q.counter) _ _
     (gives_pick ns (counter_ok q.kind q.counter) _ _ d n15) n14) n13) n12) n11
 
-admission_gives : (ns : List ℕ) → Gives ns Done → Gives ns CeilingReached → Gives ns NotAdmitted → (a : Admission) → Gives ns (admission_outcome a)
-admission_gives ns d n19 n20 Admitted = d
-admission_gives ns d n19 n20 admission.CeilingReached = n19
-admission_gives ns d n19 n20 NoRoom = n20
+admission_gives : (ns : List ℕ) → Gives ns done → Gives ns (Err CeilingReached) → Gives ns (Err NotAdmitted) → (a : Outcome) → Gives ns (admission_outcome a)
+admission_gives ns d n19 n20 done = d
+admission_gives ns d n19 n20 (Err CeilingReached) = n19
+admission_gives ns d n19 n20 (Err NotAdmitted) = n20
 
-room_gives : (ns : List ℕ) → Gives ns Done → Gives ns StationNotPlanned → Gives ns CeilingReached → Gives ns NotAdmitted → (t : Table) (o : Option Station) → Gives ns (room_fault t o)
+room_gives : (ns : List ℕ) → Gives ns done → Gives ns (Err StationNotPlanned) → Gives ns (Err CeilingReached) → Gives ns (Err NotAdmitted) → (t : Table) (o : Option Station) → Gives ns (room_fault t o)
 unfolding room_fault
 room_gives ns d n12 n19 n20 t none = n12
 room_gives ns d n12 n19 n20 t (some s) = admission_gives ns d n19 n20 (admission_in t.capacity (map share_of t.stations) (share_of s))
 
 -- What registration may give: the numbers of one point's own tests and of room.
 record GivesOwn (ns : List ℕ) : Type 0 where
-  done : Gives ns Done
-  unknown : Gives ns UnknownTypeOrAddress
-  unplanned : Gives ns StationNotPlanned
-  group : Gives ns GroupOutOfRange
-  counter : Gives ns CounterGroupOutOfRange
-  no_counter : Gives ns NotCounter
-  registered : Gives ns AlreadyRegistered
-  ceiling : Gives ns CeilingReached
-  room : Gives ns NotAdmitted
+  done : Gives ns done
+  unknown : Gives ns (Err UnknownTypeOrAddress)
+  unplanned : Gives ns (Err StationNotPlanned)
+  group : Gives ns (Err GroupOutOfRange)
+  counter : Gives ns (Err CounterGroupOutOfRange)
+  no_counter : Gives ns (Err NotCounter)
+  registered : Gives ns (Err AlreadyRegistered)
+  ceiling : Gives ns (Err CeilingReached)
+  room : Gives ns (Err NotAdmitted)
 
 module _ (ns : List ℕ) (g : GivesOwn ns) where
   own : (planned : Bool) (q : Request) → Gives ns (own_fault planned q)
   own planned q = own_gives ns g.done g.unknown g.unplanned g.group g.counter g.no_counter planned q
 
   registered_gives : (q : Request) (o : Option Station) → Gives ns (registered_fault q o)
-  registered_gives q o = gives_pick ns (is_registered q.ioa o) AlreadyRegistered Done g.registered g.done
+  registered_gives q o = gives_pick ns (is_registered q.ioa o) (Err AlreadyRegistered) done g.registered g.done
 
   roomy : (t : Table) (o : Option Station) → Gives ns (room_fault t o)
   roomy t o = room_gives ns g.done g.unplanned g.ceiling g.room t o
@@ -179,14 +176,14 @@ module _ (ns : List ℕ) (g : GivesOwn ns) where
   unfolding registering
   registering_gives q t = request_gives t q (station_of q.ca t.stations)
 
-  module _ (twice : Gives ns AddressTwice) where
+  module _ (twice : Gives ns (Err AddressTwice)) where
     batch_fault_gives : (t : Table) (earlier : List Request) (q : Request) → Gives ns (batch_fault t earlier q)
     unfolding batch_fault
     batch_fault_gives t earlier q =
         let o = station_of q.ca t.stations in
-        gives_first ns (own_fault (is_planned o) q) (first_fault (pick (stands_in q earlier) AddressTwice Done) (registered_fault q o)) (own (is_planned o) q)
-        (gives_first ns (pick (stands_in q earlier) AddressTwice Done) (registered_fault q o)
-        (gives_pick ns (stands_in q earlier) AddressTwice Done twice g.done) (registered_gives q o))
+        gives_first ns (own_fault (is_planned o) q) (first_fault (pick (stands_in q earlier) (Err AddressTwice) done) (registered_fault q o)) (own (is_planned o) q)
+        (gives_first ns (pick (stands_in q earlier) (Err AddressTwice) done) (registered_fault q o)
+        (gives_pick ns (stands_in q earlier) (Err AddressTwice) done twice g.done) (registered_gives q o))
 
     own_tests_gives : (t : Table) (earlier : List Request) (i : ℕ) (qs : List Request) → Gives ns (own_tests t earlier i qs).outcome
     unfolding own_tests
@@ -209,28 +206,28 @@ module _ (ns : List ℕ) (g : GivesOwn ns) where
         let r = own_tests t [] 0 qs in
         gives_effect ns (is_done r.outcome) (room_tests t 0 qs) (refused r.outcome r.place t) (room_tests_gives t 0 qs) (own_tests_gives t [] 0 qs)
 
-module _ (ns : List ℕ) (done : Gives ns Done) where
+module _ (ns : List ℕ) (done : Gives ns done) where
   -- Removal.
-  removing_gives : Gives ns NotRegistered → (ca ioa : ℕ) (t : Table) → Gives ns (unregistering ca ioa t).outcome
+  removing_gives : Gives ns (Err NotRegistered) → (ca ioa : ℕ) (t : Table) → Gives ns (unregistering ca ioa t).outcome
   unfolding unregistering
   removing_gives missing ca ioa t =
-      gives_effect ns (is_registered ioa (station_of ca t.stations)) (accepted 0 (removed t ca ioa)) (refused NotRegistered 0 t) done missing
+      gives_effect ns (is_registered ioa (station_of ca t.stations)) (accepted 0 (removed t ca ioa)) (refused (Err NotRegistered) 0 t) done missing
 
   removing_all_gives : (t : Table) → Gives ns (unregistering_all t).outcome
   unfolding unregistering_all
   removing_all_gives t = done
 
   -- What a command says, and the room for it: 5, which counts only where something is told, and 4.
-  module _ (short : Gives ns AnswerShort) where
-    with_gives : (s : Said) (l : Lent) → Gives ns s.outcome → Gives ns (pick (fits s.told l.spontaneous) Done SpontaneousShort) → Gives ns (outcome_with s l)
+  module _ (short : Gives ns (Err AnswerShort)) where
+    with_gives : (s : Said) (l : Lent) → Gives ns s.outcome → Gives ns (pick (fits s.told l.spontaneous) done (Err SpontaneousShort)) → Gives ns (outcome_with s l)
     unfolding outcome_with
     with_gives s l o told =
-        let t = pick (fits s.told l.spontaneous) Done SpontaneousShort in
-        let a = pick (fits s.answer l.answer) Done AnswerShort in
-        gives_first ns s.outcome (first_fault t a) o (gives_first ns t a told (gives_pick ns (fits s.answer l.answer) Done AnswerShort done short))
+        let t = pick (fits s.told l.spontaneous) done (Err SpontaneousShort) in
+        let a = pick (fits s.answer l.answer) done (Err AnswerShort) in
+        gives_first ns s.outcome (first_fault t a) o (gives_first ns t a told (gives_pick ns (fits s.answer l.answer) done (Err AnswerShort) done short))
 
-    answered_gives : (f : Table → Said) (l : Lent) → Gives ns TableNotWellFormed → ((t : Table) → Gives ns (f t).outcome)
-        → ((t : Table) → Gives ns (pick (fits (f t).told l.spontaneous) Done SpontaneousShort)) → Gives ns (answered_on f l).outcome
+    answered_gives : (f : Table → Said) (l : Lent) → Gives ns (Err TableNotWellFormed) → ((t : Table) → Gives ns (f t).outcome)
+        → ((t : Table) → Gives ns (pick (fits (f t).told l.spontaneous) done (Err SpontaneousShort))) → Gives ns (answered_on f l).outcome
     unfolding answered_from
     answered_gives f l three o told = of_parsed (parse l.table)
       where
@@ -239,13 +236,13 @@ module _ (ns : List ℕ) (done : Gives ns Done) where
         of_parsed (some t) = with_gives (f t) l (o t) (told t)
 
     -- Nothing told always fits.
-    untold : (s : Said) (memory : List ℕ) → s.told ≡ [] → Gives ns (pick (fits s.told memory) Done SpontaneousShort)
+    untold : (s : Said) (memory : List ℕ) → s.told ≡ [] → Gives ns (pick (fits s.told memory) done (Err SpontaneousShort))
     untold s memory e =
         let z : fits s.told memory ≡ true = ap (λ (x : List Asdu). leb (size x) (length memory)) e ∙ ap (λ (x : List ℕ). leb (length x) (length memory)) wire_none ∙ le-leb 0 (length memory) (omega arith) in
         simp z done
 
   -- System commands.
-  module _ (silent : Gives ns Silent) (malformed : Gives ns Malformed) where
+  module _ (silent : Gives ns (Err Silent)) (malformed : Gives ns (Err Malformed)) where
     command_gives : (clock m : List ℕ) (c : Command) (t : Table) → Gives ns (command_said clock m c t).outcome
     unfolding command_said
     command_gives clock m c t =
@@ -255,18 +252,18 @@ module _ (ns : List ℕ) (done : Gives ns Done) where
 
     system_gives : (clock m : List ℕ) (r : Reading) (t : Table) → Gives ns (system_from clock m r t).outcome
     unfolding system_from
-    system_gives clock m LengthOutOfRange t = malformed
-    system_gives clock m TypeNotServed t = silent
-    system_gives clock m ObjectsNotWhole t = malformed
-    system_gives clock m (Parsed c) t = gives_said ns (is_silent c m) _ _ silent (command_gives clock m c t)
+    system_gives clock m (Err LengthOutOfRange) t = malformed
+    system_gives clock m (Err TypeNotServed) t = silent
+    system_gives clock m (Err ObjectsNotWhole) t = malformed
+    system_gives clock m (Ok c) t = gives_said ns (is_silent c m) _ _ silent (command_gives clock m c t)
 
     -- Process commands.
-    process_gives : Gives ns BadProposal → (clock : List ℕ) (p : Proposal) (r : Reading) (t : Table) → Gives ns (process_from clock p r t).outcome
+    process_gives : Gives ns (Err BadProposal) → (clock : List ℕ) (p : Proposal) (r : Reading) (t : Table) → Gives ns (process_from clock p r t).outcome
     unfolding process_from
-    process_gives bad clock p LengthOutOfRange t = malformed
-    process_gives bad clock p TypeNotServed t = silent
-    process_gives bad clock p ObjectsNotWhole t = malformed
-    process_gives bad clock p (Parsed c) t =
+    process_gives bad clock p (Err LengthOutOfRange) t = malformed
+    process_gives bad clock p (Err TypeNotServed) t = silent
+    process_gives bad clock p (Err ObjectsNotWhole) t = malformed
+    process_gives bad clock p (Ok c) t =
         gives_said ns (process_cause_taken c.cause) _ _ (gives_said ns (proposal_ok (limit_of t) p.kind p.objects) _ _ done bad) silent
 
 -- System commands tell nothing.
@@ -283,10 +280,10 @@ command_untold clock m c t =
 
 system_untold : (clock m : List ℕ) (r : Reading) (t : Table) → (system_from clock m r t).told ≡ []
 unfolding system_from
-system_untold clock m LengthOutOfRange t = refl
-system_untold clock m TypeNotServed t = refl
-system_untold clock m ObjectsNotWhole t = refl
-system_untold clock m (Parsed c) t = pick_untold (is_silent c m) _ _ refl (command_untold clock m c t)
+system_untold clock m (Err LengthOutOfRange) t = refl
+system_untold clock m (Err TypeNotServed) t = refl
+system_untold clock m (Err ObjectsNotWhole) t = refl
+system_untold clock m (Ok c) t = pick_untold (is_silent c m) _ _ refl (command_untold clock m c t)
 
 -- ---- every call
 
@@ -309,7 +306,7 @@ own_numbers ns n0 n11 n12 n13 n14 n15 n17 n19 n20 =
 pub call_numbered : (c : Call) (l : Lent) → among (numbers_of c) (reply_to c l).number ≡ true
 unfolding among
 call_numbered (open_table k plan) l =
-    (gives_pick (numbers_of (open_table k plan)) (opens k plan (length l.table)) Done InvalidPlan (record { is_one = refl }) (record { is_one = refl })).is_one
+    (gives_pick (numbers_of (open_table k plan)) (opens k plan (length l.table)) done (Err InvalidPlan) (record { is_one = refl }) (record { is_one = refl })).is_one
 call_numbered (change (register_point q)) l =
     let ns = numbers_of (change (register_point [])) in
     (on_table ns (registering (request_at q 0)) (record { is_one = refl })
@@ -325,20 +322,20 @@ call_numbered (change unregister_all) l =
     (on_table (numbers_of (change unregister_all)) unregistering_all (record { is_one = refl }) (removing_all_gives (numbers_of (change unregister_all)) (record { is_one = refl })) l.table).is_one
 call_numbered (ask connection_started) l =
     let ns = numbers_of (ask connection_started) in
-    let done : Gives ns Done = record { is_one = refl } in
-    let short : Gives ns AnswerShort = record { is_one = refl } in
+    let done : Gives ns done = record { is_one = refl } in
+    let short : Gives ns (Err AnswerShort) = record { is_one = refl } in
     (answered_gives ns done short (start_said l.clock) l (record { is_one = refl }) (λ t. done) (λ t. untold ns done short (start_said l.clock t) l.spontaneous refl)).is_one
 call_numbered (ask (system m)) l =
     let ns = numbers_of (ask (system [])) in
-    let done : Gives ns Done = record { is_one = refl } in
-    let short : Gives ns AnswerShort = record { is_one = refl } in
+    let done : Gives ns done = record { is_one = refl } in
+    let short : Gives ns (Err AnswerShort) = record { is_one = refl } in
     (answered_gives ns done short (system_said l.clock m) l (record { is_one = refl })
     (λ t. system_gives ns done (record { is_one = refl }) (record { is_one = refl }) l.clock m _ t)
     (λ t. untold ns done short (system_said l.clock m t) l.spontaneous (system_untold l.clock m _ t))).is_one
 call_numbered (ask (process m n k r us)) l =
     let ns = numbers_of (ask (process [] 0 0 [] [])) in
-    let done : Gives ns Done = record { is_one = refl } in
+    let done : Gives ns done = record { is_one = refl } in
     let p = proposal_of (is_set n) k r us in
     (answered_gives ns done (record { is_one = refl }) (process_said l.clock p m) l (record { is_one = refl })
     (λ t. process_gives ns done (record { is_one = refl }) (record { is_one = refl }) (record { is_one = refl }) l.clock p _ t)
-    (λ t. gives_pick ns (fits (process_said l.clock p m t).told l.spontaneous) Done SpontaneousShort done (record { is_one = refl }))).is_one
+    (λ t. gives_pick ns (fits (process_said l.clock p m t).told l.spontaneous) done (Err SpontaneousShort) done (record { is_one = refl }))).is_one

@@ -6,13 +6,10 @@ use mathlib.Core.Option.{some}
 use Prim.Native.Nat.{ℕ, suc, ◌+◌}
 use native.Mathlib.Omega.{arith}
 use Rattle.limits.specs.Test.{pick, total}
-use Rattle.limits.specs.Outcome.{number_of, is_done}
+use Rattle.std.specs.Prelude.{Ok, Err}
+use Rattle.limits.specs.Outcome.{Outcome, done, is_done, number_of}
+use Rattle.limits.specs.declared.outcome.Refusal.TheVariants.{AddressTwice, AlreadyRegistered, CeilingReached, NotAdmitted}
 use Rattle.limits.specs.Share.{held_of, unmet_of, free_of, admission_in}
-use Rattle.limits.specs.declared.share.Admission.{Admission}
-use Rattle.limits.specs.declared.share.Admission.TheVariants.{Admitted, NoRoom}
-use Rattle.limits.specs.declared.share.Admission.TheVariants as admission
-use Rattle.limits.specs.declared.outcome.Outcome.{Outcome}
-use Rattle.limits.specs.declared.outcome.Outcome.TheVariants.{Done, AddressTwice, AlreadyRegistered, CeilingReached, NotAdmitted}
 use Rattle.limits.proofs.Outcomes.{not_both, done_is}
 use Rattle.limits.proofs.Shares.{no_room, no_room_only, at_ceiling, at_ceiling_only}
 use Rattle.model.specs.declared.Request.{Request}
@@ -38,15 +35,15 @@ use Rattle.promises.specs.Shares.Turn.{turn_now, turn_later}
 -- ---- the share rule of a station of a good table
 
 -- what the rule answers tells what the table gives, and the other way round
-full_is : (x : Admission) → admission_outcome x ≡ CeilingReached → x ≡ admission.CeilingReached
-full_is Admitted e = let z : ◌≡◌ {A = ℕ} 0 19 = ap number_of e in absurd (omega arith)
-full_is admission.CeilingReached e = refl
-full_is NoRoom e = let z : ◌≡◌ {A = ℕ} 20 19 = ap number_of e in absurd (omega arith)
+full_is : (x : Outcome) → admission_outcome x ≡ (Err CeilingReached) → x ≡ (Err CeilingReached)
+full_is done e = let z : ◌≡◌ {A = ℕ} 0 19 = ap number_of e in absurd (omega arith)
+full_is (Err CeilingReached) e = refl
+full_is (Err NotAdmitted) e = let z : ◌≡◌ {A = ℕ} 20 19 = ap number_of e in absurd (omega arith)
 
-kept_is : (x : Admission) → admission_outcome x ≡ NotAdmitted → x ≡ NoRoom
-kept_is Admitted e = let z : ◌≡◌ {A = ℕ} 0 20 = ap number_of e in absurd (omega arith)
-kept_is admission.CeilingReached e = let z : ◌≡◌ {A = ℕ} 19 20 = ap number_of e in absurd (omega arith)
-kept_is NoRoom e = refl
+kept_is : (x : Outcome) → admission_outcome x ≡ (Err NotAdmitted) → x ≡ (Err NotAdmitted)
+kept_is done e = let z : ◌≡◌ {A = ℕ} 0 20 = ap number_of e in absurd (omega arith)
+kept_is (Err CeilingReached) e = let z : ◌≡◌ {A = ℕ} 19 20 = ap number_of e in absurd (omega arith)
+kept_is (Err NotAdmitted) e = refl
 
 module _ (t : Table) (ca : ℕ) (s : Station) (g : Good t) (f : station_of ca t.stations ≡ some s) where
   abbrev free_in_lem : ℕ
@@ -55,7 +52,7 @@ module _ (t : Table) (ca : ℕ) (s : Station) (g : Good t) (f : station_of ca t.
   abbrev unmet_in_lem : ℕ
   unmet_in_lem = total unmet_of (map share_of t.stations)
 
-  ceiling_rule : Exactly (room_fault t (some s) ≡ CeilingReached) (AtCeiling t s)
+  ceiling_rule : Exactly (room_fault t (some s) ≡ (Err CeilingReached)) (AtCeiling t s)
   unfolding room_fault
   ceiling_rule =
       let h = (station_numbers t ca s g f).held_within in
@@ -64,7 +61,7 @@ module _ (t : Table) (ca : ℕ) (s : Station) (g : Good t) (f : station_of ca t.
         always = λ e. ap admission_outcome (at_ceiling (share_of s) free_in_lem unmet_in_lem (omega arith));
       }
 
-  room_rule : Exactly (room_fault t (some s) ≡ NotAdmitted) (NotAdmittedIn t s)
+  room_rule : Exactly (room_fault t (some s) ≡ (Err NotAdmitted)) (NotAdmittedIn t s)
   unfolding room_fault
   room_rule =
       let h : total held_of (map share_of t.stations) ≡ total held t.stations = total_held t.stations in
@@ -85,8 +82,8 @@ pub record Rule (o : Outcome) (P : Table → Station → Type 0) : Type 0 where
   pub exactly : (t : Table) (ca : ℕ) (s : Station) → Good t → station_of ca t.stations ≡ some s → Exactly (room_fault t (some s) ≡ o) (P t s)
   -- no other test gives it
   pub not_own : (planned : Bool) (q : Request) → own_fault planned q ≡ o → ⊥
-  pub not_registered : AlreadyRegistered ≡ o → ⊥
-  pub not_twice : AddressTwice ≡ o → ⊥
+  pub not_registered : (Err AlreadyRegistered) ≡ o → ⊥
+  pub not_twice : (Err AddressTwice) ≡ o → ⊥
 
 -- the tests 11 to 15 give 0 or 11 to 15
 own_number : (planned : Bool) (q : Request) → among (0 ∷ 11 ∷ 12 ∷ 13 ∷ 14 ∷ 15 ∷ []) (number_of (own_fault planned q)) ≡ true
@@ -95,7 +92,7 @@ own_number planned q =
     (own_gives (0 ∷ 11 ∷ 12 ∷ 13 ∷ 14 ∷ 15 ∷ []) (record { is_one = refl }) (record { is_one = refl }) (record { is_one = refl }) (record { is_one = refl })
     (record { is_one = refl }) (record { is_one = refl }) planned q).is_one
 
-pub nineteen : Rule CeilingReached AtCeiling
+pub nineteen : Rule (Err CeilingReached) AtCeiling
 unfolding among
 nineteen =
     record {
@@ -106,7 +103,7 @@ nineteen =
       not_twice = λ e. let z : ◌≡◌ {A = ℕ} 16 19 = ap number_of e in absurd (omega arith);
     }
 
-pub twenty : Rule NotAdmitted NotAdmittedIn
+pub twenty : Rule (Err NotAdmitted) NotAdmittedIn
 unfolding among
 twenty =
     record {
@@ -120,15 +117,15 @@ twenty =
 -- ---- a point alone
 
 -- a first fault that is not the first of two is the second
-second_fault : (a b o : Outcome) → first_fault a b ≡ o → (a ≡ o → ⊥) → (a ≡ Done) × (b ≡ o)
+second_fault : (a b o : Outcome) → first_fault a b ≡ o → (a ≡ o → ⊥) → (a ≡ done) × (b ≡ o)
 second_fault a b o e n = by_test (is_done a) refl e
   where
-    by_test : (t : Bool) → is_done a ≡ t → pick t b a ≡ o → (a ≡ Done) × (b ≡ o)
+    by_test : (t : Bool) → is_done a ≡ t → pick t b a ≡ o → (a ≡ done) × (b ≡ o)
     by_test true d e' = (done_is a d, e')
     by_test false d e' = absurd (n e')
 
 -- a test that gives its fault or Done
-not_this : (fault o : Outcome) → is_done o ≡ false → (fault ≡ o → ⊥) → (b : Bool) → pick b fault Done ≡ o → ⊥
+not_this : (fault o : Outcome) → is_done o ≡ false → (fault ≡ o → ⊥) → (b : Bool) → pick b fault done ≡ o → ⊥
 not_this fault o r n true e = n e
 not_this fault o r n false e = not_both (sym r ∙ ap is_done (sym e))
 
@@ -189,7 +186,7 @@ module _ (o : Outcome) (P : Table → Station → Type 0) (rule : Rule o P) wher
       record {
         only = λ e.
             let one = second_fault (own_fault (is_planned st) q) (first_fault (registered_fault q st) (room_fault t st)) o e (rule.not_own (is_planned st) q) in
-            let two = second_fault (registered_fault q st) (room_fault t st) o one.1 (not_this AlreadyRegistered o rule.is_refusal rule.not_registered (is_registered q.ioa st)) in
+            let two = second_fault (registered_fault q st) (room_fault t st) o one.1 (not_this (Err AlreadyRegistered) o rule.is_refusal rule.not_registered (is_registered q.ioa st)) in
             let s = planned_is st (faultless (is_planned st) q one.0).is_planned_lem in
             record {
               station = s.0;
@@ -209,11 +206,11 @@ module _ (o : Outcome) (P : Table → Station → Type 0) (rule : Rule o P) wher
   own_tests_not t earlier i [] e = not_both (sym rule.is_refusal ∙ ap is_done (sym e))
   own_tests_not t earlier i (q ∷ qs) e = by_test (own_tests_not t (q ∷ earlier) (i + 1) qs) (is_done (batch_fault t earlier q)) e
     where
-      fault_not : first_fault (own_fault (is_planned (station_of q.ca t.stations)) q) (first_fault (pick (stands_in q earlier) AddressTwice Done) (registered_fault q (station_of q.ca t.stations))) ≡ o → ⊥
+      fault_not : first_fault (own_fault (is_planned (station_of q.ca t.stations)) q) (first_fault (pick (stands_in q earlier) (Err AddressTwice) done) (registered_fault q (station_of q.ca t.stations))) ≡ o → ⊥
       fault_not f =
-          let one = second_fault _ (first_fault (pick (stands_in q earlier) AddressTwice Done) (registered_fault q (station_of q.ca t.stations))) o f (rule.not_own (is_planned (station_of q.ca t.stations)) q) in
-          let two = second_fault (pick (stands_in q earlier) AddressTwice Done) (registered_fault q (station_of q.ca t.stations)) o one.1 (not_this AddressTwice o rule.is_refusal rule.not_twice (stands_in q earlier)) in
-          not_this AlreadyRegistered o rule.is_refusal rule.not_registered (is_registered q.ioa (station_of q.ca t.stations)) two.1
+          let one = second_fault _ (first_fault (pick (stands_in q earlier) (Err AddressTwice) done) (registered_fault q (station_of q.ca t.stations))) o f (rule.not_own (is_planned (station_of q.ca t.stations)) q) in
+          let two = second_fault (pick (stands_in q earlier) (Err AddressTwice) done) (registered_fault q (station_of q.ca t.stations)) o one.1 (not_this (Err AddressTwice) o rule.is_refusal rule.not_twice (stands_in q earlier)) in
+          not_this (Err AlreadyRegistered) o rule.is_refusal rule.not_registered (is_registered q.ioa (station_of q.ca t.stations)) two.1
 
       by_test : ((own_tests t (q ∷ earlier) (i + 1) qs).outcome ≡ o → ⊥) → (b : Bool)
           → (pick b (own_tests t (q ∷ earlier) (i + 1) qs) (record { outcome = batch_fault t earlier q; place = i })).outcome ≡ o → ⊥
@@ -235,7 +232,7 @@ module _ (o : Outcome) (P : Table → Station → Type 0) (rule : Rule o P) wher
       refusal : Effect
       refusal = record { outcome = (own_tests t [] 0 qs).outcome; place = (own_tests t [] 0 qs).place; after = t }
 
-      by_turn : (own_tests t [] 0 qs).outcome ≡ Done → (room_tests t 0 qs).place ≡ i → RefusedAt t qs o 0 (room_tests t 0 qs).place → AtTurn t qs i P
+      by_turn : (own_tests t [] 0 qs).outcome ≡ done → (room_tests t 0 qs).place ≡ i → RefusedAt t qs o 0 (room_tests t 0 qs).place → AtTurn t qs i P
       by_turn own p z =
           let good = turn_good t qs z.at z.asks g (own_tests_ready t [] 0 qs own).0 w (turn_of z.turn) in
           let s = planned_is (station_of z.asks.ca z.at.stations) (faultless (is_planned (station_of z.asks.ca z.at.stations)) z.asks good.1.own).is_planned_lem in

@@ -10,9 +10,9 @@ use native.Mathlib.Omega.{arith}
 use lib.ListN.{length}
 use lib.Dec.{eqb}
 use Rattle.limits.specs.Test.{pick}
-use Rattle.limits.specs.Outcome.{number_of, is_done}
-use Rattle.limits.specs.declared.outcome.Outcome.{Outcome}
-use Rattle.limits.specs.declared.outcome.Outcome.TheVariants.{Done, CeilingReached, NotAdmitted}
+use Rattle.std.specs.Prelude.{Err}
+use Rattle.limits.specs.Outcome.{Outcome, done, is_done, number_of}
+use Rattle.limits.specs.declared.outcome.Refusal.TheVariants.{CeilingReached, NotAdmitted}
 use Rattle.limits.proofs.Outcomes.{not_both}
 use Rattle.model.specs.declared.Request.{Request}
 use Rattle.model.specs.Request.{request_at}
@@ -116,7 +116,7 @@ all_kept b m (s ∷ steps) a =
 -- ---- what stands
 
 -- A point of a station below its reservation is granted when registered alone.
-granted : (t : Table) (q : Request) (s : Station) → Good t → Registrable t q s → held s < s.reservation → request_outcome t q (station_of q.ca t.stations) ≡ Done
+granted : (t : Table) (q : Request) (s : Station) → Good t → Registrable t q s → held s < s.reservation → request_outcome t q (station_of q.ca t.stations) ≡ done
 unfolding registering
 granted t q s g r h = granted_alone t q s g (record { own = r.described; new = r.unregistered }) r.of_station h
 
@@ -161,9 +161,9 @@ module _ (b : Books) (m : List ℕ) (a : Kept b m) where
       let y = (batch_rule o P rule qs i).only e in
       let same = one_turn z.turn y.turn in
       let good = turn_good t (requests_in qs) z.table z.asks a.is_good (own_tests_ready t [] 0 (requests_in qs) z.own_tests_passed).0 (all_twelve qs 0 _) (turn_of z.turn) in
-      let room : room_fault z.table (station_of z.asks.ca z.table.stations) ≡ Done = below_reservation_has_room z.table z.asks.ca z.station good.0 z.of_station z.so in
+      let room : room_fault z.table (station_of z.asks.ca z.table.stations) ≡ done = below_reservation_has_room z.table z.asks.ca z.station good.0 z.of_station z.so in
       let fault = turn_fault o P rule t (requests_in qs) i a.is_good (all_twelve qs 0 _) y in
-      let done : Done ≡ o = sym room ∙ ap₂ (λ (u : Table) (r : Request). room_fault u (station_of r.ca u.stations)) same.0 same.1 ∙ fault in
+      let done : done ≡ o = sym room ∙ ap₂ (λ (u : Table) (r : Request). room_fault u (station_of r.ca u.stations)) same.0 same.1 ∙ fault in
       not_both (sym rule.is_refusal ∙ sym (ap is_done done))
 
   stands : Stands b m
@@ -180,12 +180,12 @@ module _ (b : Books) (m : List ℕ) (a : Kept b m) where
         granted_alone = λ q l s e r h.
             alone_number q l e ∙ ap number_of (granted t (request_at q 0) s a.is_good r h);
         never_refused = λ qs i z o f e.
-            ⊎_elim (λ (x : o ≡ CeilingReached). never qs i z CeilingReached AtCeiling nineteen (subst (λ (y : Outcome). reply_on (registering_all (requests_in qs)) m ≡ record { outcome = y; place = i }) x e))
-            (λ (x : o ≡ NotAdmitted). never qs i z NotAdmitted NotAdmittedIn twenty (subst (λ (y : Outcome). reply_on (registering_all (requests_in qs)) m ≡ record { outcome = y; place = i }) x e)) f;
-        ceiling_alone = alone_rule CeilingReached AtCeiling nineteen;
-        room_alone = alone_rule NotAdmitted NotAdmittedIn twenty;
-        ceiling_in_batch = batch_rule CeilingReached AtCeiling nineteen;
-        room_in_batch = batch_rule NotAdmitted NotAdmittedIn twenty;
+            ⊎_elim (λ (x : o ≡ (Err CeilingReached)). never qs i z (Err CeilingReached) AtCeiling nineteen (subst (λ (y : Outcome). reply_on (registering_all (requests_in qs)) m ≡ record { outcome = y; place = i }) x e))
+            (λ (x : o ≡ (Err NotAdmitted)). never qs i z (Err NotAdmitted) NotAdmittedIn twenty (subst (λ (y : Outcome). reply_on (registering_all (requests_in qs)) m ≡ record { outcome = y; place = i }) x e)) f;
+        ceiling_alone = alone_rule (Err CeilingReached) AtCeiling nineteen;
+        room_alone = alone_rule (Err NotAdmitted) NotAdmittedIn twenty;
+        ceiling_in_batch = batch_rule (Err CeilingReached) AtCeiling nineteen;
+        room_in_batch = batch_rule (Err NotAdmitted) NotAdmittedIn twenty;
       }
 
 -- ---- demand 3

@@ -11,9 +11,11 @@ use lib.ListN.{length, length-append}
 use lib.Dec.{eqb}
 use borrow.Author.Tests.{eqb-false}
 use Rattle.limits.specs.Test.{◌&◌, pick, total}
-use Rattle.limits.specs.Outcome.{is_done}
-use Rattle.limits.specs.declared.outcome.Outcome.{Outcome}
-use Rattle.limits.specs.declared.outcome.Outcome.TheVariants.{Done, Silent, BadProposal}
+use Rattle.std.specs.Prelude.{Ok, Err}
+use Rattle.limits.specs.Outcome.{Outcome, done, is_done}
+use Rattle.limits.specs.declared.outcome.Refusal.TheVariants.{Silent, BadProposal}
+use Rattle.asdu.specs.Command.{Reading, read_as}
+use Rattle.asdu.specs.declared.command.Unread.TheVariants.{LengthOutOfRange, TypeNotServed, ObjectsNotWhole}
 use Rattle.octets.specs.Number.{Octets}
 use Rattle.limits.specs.Size.{point_octets, most_objects, asdus_of, run_octets, header_octets, address_octets}
 use Rattle.limits.proofs.Sizes.{point_at_most}
@@ -28,9 +30,6 @@ use Rattle.table.proofs.Settings.{limit_least, limit_most}
 use Rattle.table.proofs.Change.{station_found, station_rises}
 use Rattle.asdu.specs.declared.command.Command.{Command}
 use Rattle.asdu.specs.declared.command.Entry.TheVariants.{SystemCommands}
-use Rattle.asdu.specs.declared.command.Reading.{Reading}
-use Rattle.asdu.specs.declared.command.Reading.TheVariants.{LengthOutOfRange, TypeNotServed, ObjectsNotWhole, Parsed}
-use Rattle.asdu.specs.Command.{read_as}
 use Rattle.asdu.proofs.Reading.{WellRead, parsed_is}
 use Rattle.asdu.specs.Confirmation.{confirmation, echo}
 use Rattle.asdu.proofs.Laws.{wire_none, wire_one, wire_append}
@@ -300,37 +299,37 @@ unsaid_small o t clock = record { is_small = let n = ap length wire_none in omeg
 -- What any system command says: at most 4,000,000 octets.
 system_small : (clock m : List ℕ) (t : Table) → Good t → (r : Reading) → read_as (limit_of t) SystemCommands m ≡ r → Small (system_from clock m r t)
 unfolding system_from is_silent
-system_small clock m t g LengthOutOfRange e = unsaid_small _ t clock
-system_small clock m t g TypeNotServed e = unsaid_small _ t clock
-system_small clock m t g ObjectsNotWhole e = unsaid_small _ t clock
-system_small clock m t g (Parsed c) e = by_count (eqb c.count 0) refl
+system_small clock m t g (Err LengthOutOfRange) e = unsaid_small _ t clock
+system_small clock m t g (Err TypeNotServed) e = unsaid_small _ t clock
+system_small clock m t g (Err ObjectsNotWhole) e = unsaid_small _ t clock
+system_small clock m t g (Ok c) e = by_count (eqb c.count 0) refl
   where
     by_count : (b : Bool) → eqb c.count 0 ≡ b
-        → Small (pick (b || (not (cause_taken c.kind c.cause) || (eqb c.kind interrogation_type & eqb (qualifier_of m) 0))) (unsaid Silent t clock) (command_said clock m c t))
-    by_count true n = unsaid_small Silent t clock
+        → Small (pick (b || (not (cause_taken c.kind c.cause) || (eqb c.kind interrogation_type & eqb (qualifier_of m) 0))) (unsaid (Err Silent) t clock) (command_said clock m c t))
+    by_count true n = unsaid_small (Err Silent) t clock
     by_count false n =
-        pick_small (not (cause_taken c.kind c.cause) || (eqb c.kind interrogation_type & eqb (qualifier_of m) 0)) (unsaid Silent t clock) (command_said clock m c t)
-        (unsaid_small Silent t clock)
+        pick_small (not (cause_taken c.kind c.cause) || (eqb c.kind interrogation_type & eqb (qualifier_of m) 0)) (unsaid (Err Silent) t clock) (command_said clock m c t)
+        (unsaid_small (Err Silent) t clock)
         (command_small m c t g (parsed_is (limit_of t) SystemCommands m c e) (ne_zero c.count (eqb-false _ _ n)) clock)
 
 -- What any process command says to the answer memory.
 process_small : (clock : List ℕ) (p : Proposal) (t : Table) → Good t → (r : Reading) → Small (process_from clock p r t)
 unfolding process_from
-process_small clock p t g LengthOutOfRange = unsaid_small _ t clock
-process_small clock p t g TypeNotServed = unsaid_small _ t clock
-process_small clock p t g ObjectsNotWhole = unsaid_small _ t clock
-process_small clock p t g (Parsed c) =
-    pick_small (process_cause_taken c.cause) _ _ (by_proposal (proposal_ok (limit_of t) p.kind p.objects) refl) (unsaid_small Silent t clock)
+process_small clock p t g (Err LengthOutOfRange) = unsaid_small _ t clock
+process_small clock p t g (Err TypeNotServed) = unsaid_small _ t clock
+process_small clock p t g (Err ObjectsNotWhole) = unsaid_small _ t clock
+process_small clock p t g (Ok c) =
+    pick_small (process_cause_taken c.cause) _ _ (by_proposal (proposal_ok (limit_of t) p.kind p.objects) refl) (unsaid_small (Err Silent) t clock)
   where
     by_proposal : (b : Bool) → proposal_ok (limit_of t) p.kind p.objects ≡ b
-        → Small (pick b (record { outcome = Done; answer = process_reply c p ∷ []; told = told_by t (read_updates p); after = table_after t (read_updates p); clock = clock }) (unsaid BadProposal t clock))
+        → Small (pick b (record { outcome = done; answer = process_reply c p ∷ []; told = told_by t (read_updates p); after = table_after t (read_updates p); clock = clock }) (unsaid (Err BadProposal) t clock))
     by_proposal true e =
         let few = most_reply (limit_of t) p.kind p.objects e in
         let most = limit_most t (is_good t g) in
         let l = length_confirmed c p (whole_reply (limit_of t) p.kind p.objects e) in
         let d = size_one (process_reply c p) in
         record { is_small = omega arith }
-    by_proposal false e = unsaid_small BadProposal t clock
+    by_proposal false e = unsaid_small (Err BadProposal) t clock
 
 -- What any question says to a good table.
 pub question_small : (q : Question) (clock : List ℕ) (t : Table) → Good t → Small (said_by q clock t)

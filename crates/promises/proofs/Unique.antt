@@ -3,7 +3,7 @@
 use mathlib.Core.Path.{◌≡◌, sym, ◌∙◌}
 use mathlib.Core.List.{List}
 use Prim.Native.Nat.{ℕ}
-use Rattle.limits.specs.declared.outcome.Outcome.{Outcome}
+use Rattle.limits.specs.Outcome.{Outcome}
 use Rattle.table.specs.Table.{Table}
 use Rattle.registry.specs.declared.Reply.{Reply}
 use Rattle.registry.specs.declared.StationShare.{StationShare}

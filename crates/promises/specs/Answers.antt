@@ -3,8 +3,7 @@
 -- An end: Rattle takes no function that may not end. Any call: no public entry has a `requires`, and a `Call` is any numbers and any octets.
 use Rattle.std.specs.Prelude.{ℕ, ◌<◌, ◌≡◌, List, [], ◌∷◌, true, false, length, drop, eqb}
 use Rattle.std.proofs.Math.Option.{some}
-use Rattle.limits.specs.Outcome.{number_of}
-use Rattle.limits.specs.declared.outcome.Outcome.{Outcome}
+use Rattle.limits.specs.Outcome.{Outcome, number_of}
 use Rattle.octets.specs.Number.{Octets}
 use Rattle.table.specs.Table.{Table}
 use Rattle.table.specs.Memory.{parse}

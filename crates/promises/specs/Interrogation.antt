@@ -1,9 +1,9 @@
 -- Demand 2: "Answers … are proved against definitions from IEC 60870-5-101 and -104. … An accepted global or group interrogation of one station reports
 -- exactly the selected points, each once, by type then address, in full-as-allowed ASDUs between confirmation and termination."
 -- Every entry's contract is one equation to a definition (khuvelter/specs/Calls, `reply_to` and `left_by`), so each has one right answer.
-use Rattle.std.specs.Prelude.{ℕ, ◌≤◌, ◌<◌, ◌≡◌, List, [], ◌∷◌, ◌++◌, true, false, length, eqb}
+use Rattle.std.specs.Prelude.{ℕ, ◌≤◌, ◌<◌, ◌≡◌, List, [], ◌∷◌, ◌++◌, true, false, length, eqb, Ok, Err}
 use Rattle.std.proofs.Math.Option.{some}
-use Rattle.limits.specs.declared.outcome.Outcome.{Outcome}
+use Rattle.limits.specs.Outcome.{Outcome}
 use Rattle.octets.specs.Number.{Octets}
 use Rattle.model.specs.declared.Point.{Point}
 use Rattle.table.specs.Table.{Station, Table}
@@ -20,7 +20,6 @@ use Rattle.asdu.specs.Cause.{activation}
 use Rattle.asdu.specs.Header.{Asdu, global_address}
 use Rattle.asdu.specs.declared.command.Command.{Command}
 use Rattle.asdu.specs.declared.command.Entry.TheVariants.{SystemCommands}
-use Rattle.asdu.specs.declared.command.Reading.TheVariants.{Parsed}
 use Rattle.asdu.specs.Command.{read_as}
 use Rattle.report.specs.declared.Selection.{Selection}
 use Rattle.report.specs.Packing.{selected, counted}
@@ -41,7 +40,7 @@ use Rattle.khuvelter.specs.Calls.Call.{ask}
 -- The octets m are an interrogation of one station, s of the table t, and are accepted:
 pub record Accepted (m : List ℕ) (c : Command) (sel : Selection) (t : Table) (s : Station) : Type 0 where
   -- they pass the tests of a command of the system types, and c is what is read;
-  pub read : read_as (limit_of t) SystemCommands m ≡ Parsed c
+  pub read : read_as (limit_of t) SystemCommands m ≡ Ok c
   -- its type is 100;
   pub kind : eqb c.kind interrogation_type ≡ true
   -- it has a first object;

@@ -2,11 +2,11 @@
 -- ceiling, and a well-formed, unregistered point of a planned station holding less than its reservation is granted when registered alone, and at its
 -- turn in a batch is never refused for room. Holdings are points granted minus removed, counted from the calls since opening. Room is refused exactly
 -- by the share rule."
-use Rattle.std.specs.Prelude.{ℕ, suc, ◌+◌, ◌-◌, ◌≤◌, ◌<◌, ◌≡◌, List, [], ◌∷◌, map, true, false, ◌⊎◌, length, eqb}
+use Rattle.std.specs.Prelude.{ℕ, suc, ◌+◌, ◌-◌, ◌≤◌, ◌<◌, ◌≡◌, List, [], ◌∷◌, map, true, false, ◌⊎◌, length, eqb, Err}
 use Rattle.std.proofs.Math.Option.{some}
 use Rattle.limits.specs.Test.{◌&◌, pick, total}
-use Rattle.limits.specs.declared.outcome.Outcome.{Outcome}
-use Rattle.limits.specs.declared.outcome.Outcome.TheVariants.{Done, CeilingReached, NotAdmitted}
+use Rattle.limits.specs.Outcome.{Outcome, done}
+use Rattle.limits.specs.declared.outcome.Refusal.TheVariants.{CeilingReached, NotAdmitted}
 use Rattle.model.specs.declared.Request.{Request}
 use Rattle.model.specs.Request.{own_fault, request_at}
 use Rattle.table.specs.Table.{Station, Table, held, unmet, good}
@@ -95,7 +95,7 @@ books_after b m (s ∷ ss) = books_after (entered b s.call (reply_to s.call (len
 
 -- "A well-formed, unregistered point of a planned station."
 pub record Registrable (t : Table) (q : Request) (s : Station) : Type 0 where
-  pub described : own_fault (is_planned (station_of q.ca t.stations)) q ≡ Done
+  pub described : own_fault (is_planned (station_of q.ca t.stations)) q ≡ done
   pub unregistered : is_registered q.ioa (station_of q.ca t.stations) ≡ false
   pub of_station : station_of q.ca t.stations ≡ some s
 
@@ -118,12 +118,12 @@ pub record Alone (t : Table) (q : Request) (P : Table → Station → Type 0) : 
 -- The turn of point i of a batch: the points before it have room and are taken in.
 pub data Turn : Table → List Request → ℕ → Table → Request → Type 0 where
   turn_now : {t : Table} {q : Request} {qs : List Request} → Turn t (q ∷ qs) 0 t q
-  turn_later : {t u : Table} {q r : Request} {qs : List Request} {i : ℕ} → room_fault t (station_of q.ca t.stations) ≡ Done
+  turn_later : {t u : Table} {q r : Request} {qs : List Request} {i : ℕ} → room_fault t (station_of q.ca t.stations) ≡ done
       → Turn (with_request t q) qs i u r → Turn t (q ∷ qs) (suc i) u r
 
 -- A batch whose points all pass their own tests, and P holds at the turn of point i of the table and the station then.
 pub record AtTurn (t : Table) (qs : List Request) (i : ℕ) (P : Table → Station → Type 0) : Type 0 where
-  pub own_tests_passed : (own_tests t [] 0 qs).outcome ≡ Done
+  pub own_tests_passed : (own_tests t [] 0 qs).outcome ≡ done
   pub table : Table
   pub asks : Request
   pub turn : Turn t qs i table asks
@@ -155,16 +155,16 @@ pub record Stands (b : Books) (m : List ℕ) : Type 0 where
   pub granted_alone : (q : List ℕ) (l : Lent) (s : Station) → l.table ≡ m → Registrable table (request_at q 0) s → held s < s.reservation
       → (reply_to (change (register_point q)) l).number ≡ 0
   -- "and at its turn in a batch is never refused for room";
-  pub never_refused : (qs : List ℕ) (i : ℕ) → AtTurn table (requests_in qs) i (λ u s. held s < s.reservation) → (o : Outcome) → (o ≡ CeilingReached) ⊎ (o ≡ NotAdmitted)
+  pub never_refused : (qs : List ℕ) (i : ℕ) → AtTurn table (requests_in qs) i (λ u s. held s < s.reservation) → (o : Outcome) → (o ≡ (Err CeilingReached)) ⊎ (o ≡ (Err NotAdmitted))
       → reply_on (registering_all (requests_in qs)) m ≡ record { outcome = o; place = i } → ⊥
   -- "Room is refused exactly by the share rule": 19 and 20 of a point alone,
   pub ceiling_alone : (q : List ℕ) (l : Lent) → l.table ≡ m → Exactly ((reply_to (change (register_point q)) l).number ≡ 19) (Alone table (request_at q 0) AtCeiling)
   pub room_alone : (q : List ℕ) (l : Lent) → l.table ≡ m → Exactly ((reply_to (change (register_point q)) l).number ≡ 20) (Alone table (request_at q 0) NotAdmittedIn)
   -- and of a batch, which names the point.
   pub ceiling_in_batch : (qs : List ℕ) (i : ℕ)
-      → Exactly (reply_on (registering_all (requests_in qs)) m ≡ record { outcome = CeilingReached; place = i }) (AtTurn table (requests_in qs) i AtCeiling)
+      → Exactly (reply_on (registering_all (requests_in qs)) m ≡ record { outcome = (Err CeilingReached); place = i }) (AtTurn table (requests_in qs) i AtCeiling)
   pub room_in_batch : (qs : List ℕ) (i : ℕ)
-      → Exactly (reply_on (registering_all (requests_in qs)) m ≡ record { outcome = NotAdmitted; place = i }) (AtTurn table (requests_in qs) i NotAdmittedIn)
+      → Exactly (reply_on (registering_all (requests_in qs)) m ≡ record { outcome = (Err NotAdmitted); place = i }) (AtTurn table (requests_in qs) i NotAdmittedIn)
 
 -- Demand 3: from a table opened under a valid plan, after any calls.
 pub record TheShares : Type 0 where

@@ -8,8 +8,9 @@ use native.Mathlib.Omega.{arith}
 use lib.Dec.{eqb}
 use borrow.Author.Tests.{eqb-true, eqb-false}
 use Rattle.limits.specs.Test.{◌&◌, pick}
-use Rattle.limits.specs.Outcome.{is_done}
-use Rattle.limits.specs.declared.outcome.Outcome.TheVariants.{Done, AddressTwice}
+use Rattle.std.specs.Prelude.{Err}
+use Rattle.limits.specs.Outcome.{done, is_done}
+use Rattle.limits.specs.declared.outcome.Refusal.TheVariants.{AddressTwice}
 use Rattle.limits.proofs.Outcomes.{not_both, first_done, done_is}
 use Rattle.model.specs.declared.Request.{Request}
 use Rattle.model.specs.Request.{own_fault, point_of}
@@ -34,7 +35,7 @@ pub data AllApart (a : Request) : List Request → Type 0 where
 
 -- one request passed its own tests against a table
 pub record Passes (t : Table) (q : Request) : Type 0 where
-  pub own : own_fault (is_planned (station_of q.ca t.stations)) q ≡ Done
+  pub own : own_fault (is_planned (station_of q.ca t.stations)) q ≡ done
   pub new : is_registered q.ioa (station_of q.ca t.stations) ≡ false
 
 -- all of them did, and no two have one address
@@ -61,26 +62,26 @@ each_cons (e ∷ es) q qs s (each_more x y) = by_test (λ r. each_cons es q qs r
     by_test ih true t s' = not_both (sym s')
     by_test ih false t s' = each_more (apart_more t x) (ih s')
 
-twice_is : (b : Bool) → pick b AddressTwice Done ≡ Done → b ≡ false
+twice_is : (b : Bool) → pick b (Err AddressTwice) done ≡ done → b ≡ false
 twice_is true e = not_both (ap is_done e)
 twice_is false e = refl
 
 -- Where the own tests are passed, all are ready, and apart from those that stand earlier.
-pub own_tests_ready : (t : Table) (earlier : List Request) (i : ℕ) (qs : List Request) → (own_tests t earlier i qs).outcome ≡ Done
+pub own_tests_ready : (t : Table) (earlier : List Request) (i : ℕ) (qs : List Request) → (own_tests t earlier i qs).outcome ≡ done
     → Ready t qs × EachApart earlier qs
 unfolding own_tests batch_fault
 own_tests_ready t earlier i [] e = (ready_none, each_nil earlier)
 own_tests_ready t earlier i (q ∷ qs) e = by_test (λ r. own_tests_ready t (q ∷ earlier) (i + 1) qs r) (is_done (batch_fault t earlier q)) refl e
   where
-    split : Ready t qs × EachApart (q ∷ earlier) qs → batch_fault t earlier q ≡ Done → Ready t (q ∷ qs) × EachApart earlier (q ∷ qs)
+    split : Ready t qs × EachApart (q ∷ earlier) qs → batch_fault t earlier q ≡ done → Ready t (q ∷ qs) × EachApart earlier (q ∷ qs)
     split (r, each_more x y) d =
         let f1 = first_done _ _ d in
         let f2 = first_done _ _ f1.1 in
         (ready_more (record { own = f1.0; new = unregistered_is q _ f2.1 }) x r, each_cons earlier q qs (twice_is _ f2.0) y)
 
-    by_test : ((own_tests t (q ∷ earlier) (i + 1) qs).outcome ≡ Done → Ready t qs × EachApart (q ∷ earlier) qs)
+    by_test : ((own_tests t (q ∷ earlier) (i + 1) qs).outcome ≡ done → Ready t qs × EachApart (q ∷ earlier) qs)
         → (b : Bool) → is_done (batch_fault t earlier q) ≡ b
-        → (pick b (own_tests t (q ∷ earlier) (i + 1) qs) (record { outcome = batch_fault t earlier q; place = i })).outcome ≡ Done
+        → (pick b (own_tests t (q ∷ earlier) (i + 1) qs) (record { outcome = batch_fault t earlier q; place = i })).outcome ≡ done
         → Ready t (q ∷ qs) × EachApart earlier (q ∷ qs)
     by_test ih true d e' = split (ih e') (done_is _ d)
     by_test ih false d e' = not_both (sym d ∙ ap is_done e')
@@ -121,11 +122,11 @@ ready_after t q s (r ∷ rs) e (apart_more x xs) (ready_more p a y) = ready_more
 -- The table at the turn of a request: those before it have been admitted and taken in.
 pub data Turn : Table → List Request → Table → Request → Type 0 where
   turn_now : {t : Table} {q : Request} {qs : List Request} → Turn t (q ∷ qs) t q
-  turn_later : {t u : Table} {q r : Request} {qs : List Request} → room_fault t (station_of q.ca t.stations) ≡ Done → Turn (with_request t q) qs u r
+  turn_later : {t u : Table} {q r : Request} {qs : List Request} → room_fault t (station_of q.ca t.stations) ≡ done → Turn (with_request t q) qs u r
       → Turn t (q ∷ qs) u r
 
 -- A request that passed and has room is accepted.
-pub passes_accepted : (t : Table) (q : Request) → Twelve q → Passes t q → room_fault t (station_of q.ca t.stations) ≡ Done → Accepted t q
+pub passes_accepted : (t : Table) (q : Request) → Twelve q → Passes t q → room_fault t (station_of q.ca t.stations) ≡ done → Accepted t q
 unfolding is_registered room_fault
 passes_accepted t q w p r =
     let d = described q _ w p.own in
@@ -148,7 +149,7 @@ turn_good t (q ∷ qs) u r g (ready_more p x y) w (turn_later d l) =
     turn_good (with_request t q) qs u r (accepted_good t q g a) (ready_after t q a.station qs a.found x y) w.1 l
 
 -- A batch that has room throughout leaves a good table with its points granted, each at its own station.
-pub room_tests_good : (t : Table) (i : ℕ) (qs : List Request) → Good t → Ready t qs → AllTwelve qs → (room_tests t i qs).outcome ≡ Done
+pub room_tests_good : (t : Table) (i : ℕ) (qs : List Request) → Good t → Ready t qs → AllTwelve qs → (room_tests t i qs).outcome ≡ done
     → Good (room_tests t i qs).after × ((ca : ℕ) → held_at ca (room_tests t i qs).after ≡ held_at ca t + requests_of ca qs)
 unfolding AllTwelve room_tests requests_of
 room_tests_good t i [] g r w e = (g, λ ca. omega arith)
@@ -162,9 +163,9 @@ room_tests_good t i (q ∷ qs) g (ready_more p x y) w e =
     Goal : Effect → Type 0
     Goal z = Good z.after × ((ca : ℕ) → held_at ca z.after ≡ held_at ca t + (pick (eqb q.ca ca) 1 0 + requests_of ca qs))
 
-    by_test : (room_fault t (station_of q.ca t.stations) ≡ Done → (room_tests (with_request t q) (i + 1) qs).outcome ≡ Done → Goal (room_tests (with_request t q) (i + 1) qs))
+    by_test : (room_fault t (station_of q.ca t.stations) ≡ done → (room_tests (with_request t q) (i + 1) qs).outcome ≡ done → Goal (room_tests (with_request t q) (i + 1) qs))
         → (b : Bool) → is_done (room_fault t (station_of q.ca t.stations)) ≡ b
-        → (pick b (room_tests (with_request t q) (i + 1) qs) (record { outcome = room_fault t (station_of q.ca t.stations); place = i; after = t })).outcome ≡ Done
+        → (pick b (room_tests (with_request t q) (i + 1) qs) (record { outcome = room_fault t (station_of q.ca t.stations); place = i; after = t })).outcome ≡ done
         → Goal (pick b (room_tests (with_request t q) (i + 1) qs) (record { outcome = room_fault t (station_of q.ca t.stations); place = i; after = t }))
     by_test ih true d e' = ih (done_is _ d) e'
     by_test ih false d e' = not_both (sym d ∙ ap is_done e')

@@ -10,11 +10,11 @@ use lib.ListN.{length}
 use lib.Dec.{eqb}
 use borrow.Author.Tests.{leb-true}
 use Rattle.limits.specs.Test.{◌&◌, pick}
-use Rattle.limits.specs.Outcome.{is_done}
+use Rattle.std.specs.Prelude.{Ok, Err}
+use Rattle.limits.specs.Outcome.{Outcome, done, is_done}
+use Rattle.limits.specs.declared.outcome.Refusal.TheVariants.{CeilingReached, NotAdmitted}
 use Rattle.limits.specs.Share.{admission_in, Sound}
 use Rattle.limits.specs.declared.share.Share.{Share}
-use Rattle.limits.specs.declared.share.Admission.TheVariants.{Admitted}
-use Rattle.limits.specs.declared.outcome.Outcome.TheVariants.{Done}
 use Rattle.limits.proofs.Tests.{both}
 use Rattle.limits.proofs.Outcomes.{not_both, first_done, done_is}
 use Rattle.limits.proofs.Shares.{below_reservation_admitted}
@@ -55,7 +55,7 @@ station_numbers t ca s g e =
 
 -- A station holding less than its reservation has room.
 pub below_reservation_has_room : (t : Table) (ca : ℕ) (s : Station) → Good t → station_of ca t.stations ≡ some s → held s < s.reservation
-    → room_fault t (station_of ca t.stations) ≡ Done
+    → room_fault t (station_of ca t.stations) ≡ done
 unfolding room_fault
 below_reservation_has_room t ca s g e h =
     let w = station_found ca t.stations s e in
@@ -65,13 +65,13 @@ below_reservation_has_room t ca s g e h =
     let split : map share_of t.stations ≡ B ++ (share_of s ∷ A) = ap (map share_of) w.split ∙ shares_split w.before s w.after in
     let sound : Sound k (B ++ (share_of s ∷ A)) = subst (Sound k) split (good_sound t g) in
     let n = station_numbers t ca s g e in
-    let a : admission_in k (B ++ (share_of s ∷ A)) (share_of s) ≡ Admitted = below_reservation_admitted k B (share_of s) A sound n.reservation_within h in
-    let a' : admission_in k (map share_of t.stations) (share_of s) ≡ Admitted = ap (λ (l : List Share). admission_in k l (share_of s)) split ∙ a in
+    let a : admission_in k (B ++ (share_of s ∷ A)) (share_of s) ≡ done = below_reservation_admitted k B (share_of s) A sound n.reservation_within h in
+    let a' : admission_in k (map share_of t.stations) (share_of s) ≡ done = ap (λ (l : List Share). admission_in k l (share_of s)) split ∙ a in
     ap (room_fault t) e ∙ ap admission_outcome a'
 
 -- A well-formed, unregistered point of a planned station holding less than its reservation is granted when registered alone.
 pub granted_alone : (t : Table) (q : Request) (s : Station) → Good t → Passes t q → station_of q.ca t.stations ≡ some s → held s < s.reservation
-    → (registering q t).outcome ≡ Done
+    → (registering q t).outcome ≡ done
 unfolding registering request_outcome
 granted_alone t q s g p e h =
     let room = below_reservation_has_room t q.ca s g e h in
@@ -210,7 +210,7 @@ module _ (t : Table) (g : Good t) where
           }
       by_test false e = record { is_good = simp e g; plan = simp e (same_plan t); tally = λ other x d h. simp e (omega arith) }
 
-  request_accepted : (q : Request) → Twelve q → request_outcome t q (station_of q.ca t.stations) ≡ Done → Accepted t q
+  request_accepted : (q : Request) → Twelve q → request_outcome t q (station_of q.ca t.stations) ≡ done → Accepted t q
   unfolding request_outcome
   request_accepted q w e =
       let f1 = first_done _ _ e in
@@ -232,7 +232,7 @@ module _ (t : Table) (g : Good t) where
       by_test false e = record { is_good = simp e g; plan = simp e (same_plan t); tally = λ other x d h. simp e (omega arith) }
 
   -- what a batch that was done says
-  batch_done : (qs : List Request) → AllTwelve qs → (registering_all qs t).outcome ≡ Done
+  batch_done : (qs : List Request) → AllTwelve qs → (registering_all qs t).outcome ≡ done
       → Good (registering_all qs t).after × SamePlan t (registering_all qs t).after × ((ca : ℕ) → held_at ca (registering_all qs t).after ≡ held_at ca t + requests_of ca qs)
   unfolding registering_all
   batch_done qs w e = by_test (is_done (own_tests t [] 0 qs).outcome) refl e
@@ -243,7 +243,7 @@ module _ (t : Table) (g : Good t) where
       refusal : Effect
       refusal = record { outcome = (own_tests t [] 0 qs).outcome; place = (own_tests t [] 0 qs).place; after = t }
 
-      by_test : (b : Bool) → is_done (own_tests t [] 0 qs).outcome ≡ b → (pick b (room_tests t 0 qs) refusal).outcome ≡ Done → Goal (pick b (room_tests t 0 qs) refusal)
+      by_test : (b : Bool) → is_done (own_tests t [] 0 qs).outcome ≡ b → (pick b (room_tests t 0 qs) refusal).outcome ≡ done → Goal (pick b (room_tests t 0 qs) refusal)
       by_test true d e' =
           let r = own_tests_ready t [] 0 qs (done_is _ d) in
           let z = room_tests_good t 0 qs g r.0 w e' in

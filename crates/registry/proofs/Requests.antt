@@ -10,12 +10,10 @@ use lib.ListN.{length}
 use lib.Dec.{eqb}
 use borrow.Author.Tests.{eqb-true, eqb-false}
 use Rattle.limits.specs.Test.{pick}
-use Rattle.limits.specs.Outcome.{is_done}
+use Rattle.std.specs.Prelude.{Ok, Err}
+use Rattle.limits.specs.Outcome.{Outcome, done, is_done}
+use Rattle.limits.specs.declared.outcome.Refusal.TheVariants.{AlreadyRegistered, CeilingReached, NotAdmitted}
 use Rattle.limits.specs.Share.{admission_in}
-use Rattle.limits.specs.declared.share.Admission.{Admission}
-use Rattle.limits.specs.declared.share.Admission.TheVariants.{Admitted, NoRoom}
-use Rattle.limits.specs.declared.share.Admission.TheVariants as admission
-use Rattle.limits.specs.declared.outcome.Outcome.TheVariants.{Done, AlreadyRegistered}
 use Rattle.limits.proofs.Outcomes.{not_both}
 use Rattle.model.specs.declared.Point.{Point}
 use Rattle.model.specs.declared.Request.{Request}
@@ -32,7 +30,7 @@ use Rattle.registry.specs.History.{Twelve, held_by, held_at}
 -- ---- what an accepted request says
 
 -- A record without a fault is planned, and its point is as described.
-pub described : (q : Request) (planned : Bool) → Twelve q → own_fault planned q ≡ Done → (planned ≡ true) × (point_ok (point_of q) ≡ true)
+pub described : (q : Request) (planned : Bool) → Twelve q → own_fault planned q ≡ done → (planned ≡ true) × (point_ok (point_of q) ≡ true)
 described q planned w e =
     let p : planned ≡ true = (faultless planned q e).is_planned_lem in
     (p, done_point q w (ap (λ (b : Bool). own_fault b q) (sym p) ∙ e))
@@ -42,15 +40,15 @@ unfolding is_planned
 planned_is none e = not_both e
 planned_is (some s) e = (s, refl)
 
-pub admitted_is : (a : Admission) → admission_outcome a ≡ Done → a ≡ Admitted
-admitted_is Admitted e = refl
-admitted_is admission.CeilingReached e = not_both (ap is_done e)
-admitted_is NoRoom e = not_both (ap is_done e)
+pub admitted_is : (a : Outcome) → admission_outcome a ≡ done → a ≡ done
+admitted_is done e = refl
+admitted_is (Err CeilingReached) e = not_both (ap is_done e)
+admitted_is (Err NotAdmitted) e = not_both (ap is_done e)
 
-pub unregistered_is : (q : Request) (o : Option Station) → registered_fault q o ≡ Done → is_registered q.ioa o ≡ false
+pub unregistered_is : (q : Request) (o : Option Station) → registered_fault q o ≡ done → is_registered q.ioa o ≡ false
 unregistered_is q o e = by_test (is_registered q.ioa o) e
   where
-    by_test : (b : Bool) → pick b AlreadyRegistered Done ≡ Done → b ≡ false
+    by_test : (b : Bool) → pick b (Err AlreadyRegistered) done ≡ done → b ≡ false
     by_test true e' = not_both (ap is_done e')
     by_test false e' = refl
 
@@ -62,7 +60,7 @@ pub record Accepted (t : Table) (q : Request) : Type 0 where
   pub found : station_of q.ca t.stations ≡ some station
   pub described : point_ok (point_of q) ≡ true
   pub new : known q.ioa station.points ≡ false
-  pub admitted : admission_in t.capacity (map share_of t.stations) (share_of station) ≡ Admitted
+  pub admitted : admission_in t.capacity (map share_of t.stations) (share_of station) ≡ done
 
 pub accepted_good : (t : Table) (q : Request) → Good t → Accepted t q → Good (with_request t q)
 unfolding point_of

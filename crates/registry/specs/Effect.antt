@@ -1,11 +1,10 @@
 -- The effect of a call on a table, and what that makes of a memory that is lent to the call: the common last step of every entry.
 -- Document 01, 'Numbers given back': every number but 0 writes nothing anywhere.
-use Rattle.std.specs.Prelude.{ℕ, List, ◌++◌, length, drop}
+use Rattle.std.specs.Prelude.{ℕ, List, ◌++◌, length, drop, Err}
 use Rattle.std.proofs.Math.Option.{Option, none, some}
 use Rattle.limits.specs.Test.{pick}
-use Rattle.limits.specs.Outcome.{is_done}
-use Rattle.limits.specs.declared.outcome.Outcome.{Outcome}
-use Rattle.limits.specs.declared.outcome.Outcome.TheVariants.{Done, TableNotWellFormed}
+use Rattle.limits.specs.Outcome.{Outcome, done, is_done}
+use Rattle.limits.specs.declared.outcome.Refusal.TheVariants.{TableNotWellFormed}
 use Rattle.table.specs.Table.{Table, image}
 use Rattle.table.specs.Memory.{parse}
 use Rattle.registry.specs.declared.Reply.{Reply}
@@ -22,7 +21,7 @@ refused o place t = record { outcome = o; place = place; after = t }
 
 -- Done, with the table after it.
 abbrev pub accepted : ℕ → Table → Effect
-accepted place t = record { outcome = Done; place = place; after = t }
+accepted place t = record { outcome = done; place = place; after = t }
 
 -- The first fault counts.
 abbrev pub first_fault : Outcome → Outcome → Outcome
@@ -37,7 +36,7 @@ abbrev pub holding : List ℕ → Table → Table → List ℕ
 holding m t t' = image t' ++ drop (length (image t)) m
 
 unfoldable pub reply_from : (Table → Effect) → Option Table → Reply
-reply_from f none = record { outcome = TableNotWellFormed; place = 0 }
+reply_from f none = record { outcome = (Err TableNotWellFormed); place = 0 }
 reply_from f (some t) = record { outcome = (f t).outcome; place = (f t).place }
 
 unfoldable pub memory_from : (Table → Effect) → List ℕ → Option Table → List ℕ

@@ -1,8 +1,8 @@
 -- Opening a table under a plan. Document 01, 'Points, stations and shares' and number 10.
-use Rattle.std.specs.Prelude.{ℕ, ◌+◌, ◌*◌, ◌%◌, List, [], ◌∷◌, ◌++◌, Bool, length, drop, leb, eqb}
+use Rattle.std.specs.Prelude.{ℕ, ◌+◌, ◌*◌, ◌%◌, List, [], ◌∷◌, ◌++◌, Bool, length, drop, leb, eqb, Err}
 use Rattle.limits.specs.Test.{◌&◌, pick, total}
-use Rattle.limits.specs.declared.outcome.Outcome.{Outcome}
-use Rattle.limits.specs.declared.outcome.Outcome.TheVariants.{Done, InvalidPlan}
+use Rattle.limits.specs.Outcome.{Outcome, done}
+use Rattle.limits.specs.declared.outcome.Refusal.TheVariants.{InvalidPlan}
 use Rattle.layout.specs.Layout.{head_size, place_size, station_size, most_places, most_stations}
 use Rattle.table.specs.Table.{document01, Station, Table, plan_ok, reserved, image}
 
@@ -31,7 +31,7 @@ fresh k plan = record { settings = document01; capacity = k; stations = planned 
 
 -- Opening gives only 10, or 0.
 abbrev pub open_outcome : ℕ → List ℕ → List ℕ → Outcome
-open_outcome k plan m = pick (opens k plan (length m)) Done InvalidPlan
+open_outcome k plan m = pick (opens k plan (length m)) done (Err InvalidPlan)
 
 -- The memory after opening: the fresh table, and what lies past it as it was; or, refused, all as it was.
 abbrev pub opened_memory : ℕ → List ℕ → List ℕ → List ℕ

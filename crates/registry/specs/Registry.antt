@@ -1,15 +1,11 @@
 -- Registration of one point and of a batch, removal, and a station's share, said of a table.
 -- Document 01, 'Points, stations and shares' and 'Numbers given back'.
-use Rattle.std.specs.Prelude.{ℕ, ◌+◌, ◌-◌, List, [], ◌∷◌, map, Bool, true, false, eqb}
+use Rattle.std.specs.Prelude.{ℕ, ◌+◌, ◌-◌, List, [], ◌∷◌, map, Bool, true, false, eqb, Ok, Err}
 use Rattle.std.proofs.Math.Option.{Option, none, some}
 use Rattle.limits.specs.Test.{◌&◌, pick, total}
 use Rattle.limits.specs.Share.{admission_in}
-use Rattle.limits.specs.Outcome.{is_done}
-use Rattle.limits.specs.declared.share.Admission.{Admission}
-use Rattle.limits.specs.declared.share.Admission.TheVariants.{Admitted, NoRoom}
-use Rattle.limits.specs.declared.share.Admission.TheVariants as admission
-use Rattle.limits.specs.declared.outcome.Outcome.{Outcome}
-use Rattle.limits.specs.declared.outcome.Outcome.TheVariants.{Done, TableNotWellFormed, StationNotPlanned, AddressTwice, AlreadyRegistered, NotRegistered, CeilingReached, NotAdmitted}
+use Rattle.limits.specs.Outcome.{Outcome, done, is_done}
+use Rattle.limits.specs.declared.outcome.Refusal.TheVariants.{TableNotWellFormed, StationNotPlanned, AddressTwice, AlreadyRegistered, NotRegistered, CeilingReached, NotAdmitted}
 use Rattle.model.specs.declared.Request.{Request}
 use Rattle.model.specs.Request.{own_fault, point_of}
 use Rattle.table.specs.Table.{Station, Table, held, unmet, share_of}
@@ -32,19 +28,19 @@ is_registered ioa none = false
 is_registered ioa (some s) = known ioa s.points
 
 -- The outcome that goes with what the share rule answers.
-abbrev pub admission_outcome : Admission → Outcome
-admission_outcome Admitted = Done
-admission_outcome admission.CeilingReached = CeilingReached
-admission_outcome NoRoom = NotAdmitted
+abbrev pub admission_outcome : Outcome → Outcome
+admission_outcome done = done
+admission_outcome (Err CeilingReached) = (Err CeilingReached)
+admission_outcome (Err NotAdmitted) = (Err NotAdmitted)
 
 -- The share rule's answer to one more point of a station of the table.
 unfoldable pub room_fault : Table → Option Station → Outcome
-room_fault t none = StationNotPlanned
+room_fault t none = (Err StationNotPlanned)
 room_fault t (some s) = admission_outcome (admission_in t.capacity (map share_of t.stations) (share_of s))
 
 -- Already registered (17)?
 abbrev pub registered_fault : Request → Option Station → Outcome
-registered_fault q s = pick (is_registered q.ioa s) AlreadyRegistered Done
+registered_fault q s = pick (is_registered q.ioa s) (Err AlreadyRegistered) done
 
 -- The outcome of registering one point: 11 to 15, 17, then 19 and 20.
 unfoldable pub request_outcome : Table → Request → Option Station → Outcome
@@ -69,11 +65,11 @@ stands_in q (e ∷ es) = pick (eqb e.ca q.ca & eqb e.ioa q.ioa) true (stands_in 
 unfoldable pub batch_fault : Table → List Request → Request → Outcome
 batch_fault t earlier q =
     first_fault (own_fault (is_planned (station_of q.ca t.stations)) q)
-    (first_fault (pick (stands_in q earlier) AddressTwice Done) (registered_fault q (station_of q.ca t.stations)))
+    (first_fault (pick (stands_in q earlier) (Err AddressTwice) done) (registered_fault q (station_of q.ca t.stations)))
 
 -- Every request passes its own tests in list order; the first that does not is named, counted from i.
 unfoldable pub own_tests : Table → List Request → ℕ → List Request → Reply
-own_tests t earlier i [] = record { outcome = Done; place = 0 }
+own_tests t earlier i [] = record { outcome = done; place = 0 }
 own_tests t earlier i (q ∷ qs) =
     pick (is_done (batch_fault t earlier q)) (own_tests t (q ∷ earlier) (i + 1) qs) (record { outcome = batch_fault t earlier q; place = i })
 
@@ -95,7 +91,7 @@ registering_all qs t =
 -- Removing one point.
 unfoldable pub unregistering : ℕ → ℕ → Table → Effect
 unregistering ca ioa t =
-    pick (is_registered ioa (station_of ca t.stations)) (accepted 0 (removed t ca ioa)) (refused NotRegistered 0 t)
+    pick (is_registered ioa (station_of ca t.stations)) (accepted 0 (removed t ca ioa)) (refused (Err NotRegistered) 0 t)
 
 -- Removing all points gives back their number and keeps the plan.
 unfoldable pub unregistering_all : Table → Effect
@@ -107,10 +103,10 @@ abbrev pub no_share : Outcome → StationShare
 no_share o = record { outcome = o; reservation = 0; ceiling = 0; held = 0; free = 0; unmet = 0 }
 
 unfoldable pub share_in : Table → Option Station → StationShare
-share_in t none = no_share StationNotPlanned
+share_in t none = no_share (Err StationNotPlanned)
 share_in t (some s) =
     record {
-      outcome = Done;
+      outcome = done;
       reservation = s.reservation;
       ceiling = s.ceiling;
       held = held s;
@@ -119,7 +115,7 @@ share_in t (some s) =
     }
 
 unfoldable pub share_from : ℕ → Option Table → StationShare
-share_from ca none = no_share TableNotWellFormed
+share_from ca none = no_share (Err TableNotWellFormed)
 share_from ca (some t) = share_in t (station_of ca t.stations)
 
 -- The share of a station, as a lent memory says: 3, then 12.

@@ -5,9 +5,9 @@ use mathlib.Core.Bool.{true, false}
 use mathlib.Core.Option.{none, some}
 use Prim.Native.Nat.{ℕ}
 use Rattle.limits.specs.Test.{pick}
-use Rattle.limits.specs.Outcome.{is_done}
-use Rattle.limits.specs.declared.outcome.Outcome.{Outcome}
-use Rattle.limits.specs.declared.outcome.Outcome.TheVariants.{Done, TableNotWellFormed}
+use Rattle.std.specs.Prelude.{Err}
+use Rattle.limits.specs.Outcome.{Outcome, done, is_done}
+use Rattle.limits.specs.declared.outcome.Refusal.TheVariants.{TableNotWellFormed}
 use Rattle.table.specs.Table.{Table}
 use Rattle.table.specs.Memory.{table_of, well_formed, parse}
 use Rattle.table.proofs.Parse.{parse_some, parse_none}
@@ -15,7 +15,7 @@ use Rattle.registry.specs.Effect.{Effect, holding, reply_from, memory_from, repl
 use Rattle.replies.specs.Replies.{Replies, placeless}
 
 -- No table: 3, and the memory as it was.
-pub no_table : (f : Table → Effect) (m : List ℕ) → well_formed m ≡ false → Replies f m (placeless TableNotWellFormed) m
+pub no_table : (f : Table → Effect) (m : List ℕ) → well_formed m ≡ false → Replies f m (placeless (Err TableNotWellFormed)) m
 unfolding reply_from memory_from
 no_table f m w = let p : parse m ≡ none = parse_none m w in (ap (reply_from f) (sym p), ap (memory_from f m) (sym p))
 
@@ -33,8 +33,8 @@ module _ (f : Table → Effect) (m : List ℕ) (w : well_formed m ≡ true) wher
       ((λ j. record { outcome = sym e j; place = sym z j }) ∙ sym of_table.0, sym (of_table.1 ∙ simp d'))
 
   -- Done, with the table after it stored.
-  pub done_by : (n : ℕ) (m' : List ℕ) → (f (table_of m)).outcome ≡ Done → (f (table_of m)).place ≡ n
-      → m' ≡ holding m (table_of m) (f (table_of m)).after → Replies f m (record { outcome = Done; place = n }) m'
+  pub done_by : (n : ℕ) (m' : List ℕ) → (f (table_of m)).outcome ≡ done → (f (table_of m)).place ≡ n
+      → m' ≡ holding m (table_of m) (f (table_of m)).after → Replies f m (record { outcome = done; place = n }) m'
   done_by n m' e z s =
       let d : is_done (f (table_of m)).outcome ≡ true = ap is_done e in
       ((λ j. record { outcome = sym e j; place = sym z j }) ∙ sym of_table.0, s ∙ sym (of_table.1 ∙ simp d))

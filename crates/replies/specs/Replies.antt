@@ -1,6 +1,6 @@
 -- What a call that changes the table gives back and leaves: one relation for every entry.
 use Rattle.std.specs.Prelude.{◌≡◌, List, ℕ}
-use Rattle.limits.specs.declared.outcome.Outcome.{Outcome}
+use Rattle.limits.specs.Outcome.{Outcome}
 use Rattle.table.specs.Table.{Table}
 use Rattle.registry.specs.declared.Reply.{Reply}
 use Rattle.registry.specs.Effect.{Effect, reply_on, memory_on}

@@ -9,7 +9,8 @@ use Rattle.octets.specs.Over.{over}
 use Rattle.octets.proofs.Laws.{over_at}
 use mathlib.Core.Bool.{true, false}
 use mathlib.Core.Option.{Option, none}
-use Rattle.limits.specs.declared.outcome.Outcome.TheVariants.{AnswerShort}
+use Rattle.std.specs.Prelude.{Err}
+use Rattle.limits.specs.declared.outcome.Refusal.TheVariants.{AnswerShort}
 use Rattle.model.specs.declared.Point.{Point}
 use Rattle.table.specs.Memory.{table_of}
 use Rattle.asdu.specs.Header.{asdu_octets, wire}
@@ -67,7 +68,7 @@ module _ (m : List ℕ) (first h : ℕ) (c : Command) (asdu out : List ℕ) (oct
       ap length wire_read ∙ simp length-append (omega arith)
 
   -- There is no room.
-  pub read_short : length out < length asdu + octets → Sends (read_answer c asdu (points_read c asdu (table_of m))) out (nothing AnswerShort) out
+  pub read_short : length out < length asdu + octets → Sends (read_answer c asdu (points_read c asdu (table_of m))) out (nothing (Err AnswerShort)) out
   read_short h' = let l = size_read in sends_nothing _ out (omega arith)
 
   -- The echo, then the requested ASDUs.

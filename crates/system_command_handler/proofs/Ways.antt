@@ -10,15 +10,15 @@ use native.Mathlib.Omega.{arith}
 use lib.ListN.{length}
 use borrow.Author.Tests.{eq-eqb, ne_eqb}
 use Rattle.limits.specs.Test.{pick}
-use Rattle.limits.specs.Outcome.{is_done}
+use Rattle.std.specs.Prelude.{Ok, Err}
+use Rattle.limits.specs.Outcome.{done, is_done}
+use Rattle.limits.specs.declared.outcome.Refusal.TheVariants.{Silent}
+use Rattle.asdu.specs.Command.{Reading, read_as, outcome_of, object_at}
+use Rattle.asdu.specs.declared.command.Unread.TheVariants.{LengthOutOfRange, TypeNotServed, ObjectsNotWhole}
 use Rattle.limits.specs.Size.{element_octets, octets_in, named_types, point_types, system_types, process_types, end_types}
-use Rattle.limits.specs.declared.outcome.Outcome.TheVariants.{Done, Silent}
 use Rattle.table.specs.Table.{Table}
 use Rattle.asdu.specs.declared.command.Command.{Command}
-use Rattle.asdu.specs.declared.command.Reading.{Reading}
-use Rattle.asdu.specs.declared.command.Reading.TheVariants.{LengthOutOfRange, TypeNotServed, ObjectsNotWhole, Parsed}
 use Rattle.asdu.specs.declared.command.Entry.TheVariants.{SystemCommands}
-use Rattle.asdu.specs.Command.{read_as, outcome_of, object_at}
 use Rattle.asdu.proofs.Reading.{parsed_is}
 use Rattle.answers.specs.Said.{says}
 use Rattle.system_command_handler.specs.Handler.{is_skipped}
@@ -32,7 +32,7 @@ pub record Sizes (m : List ℕ) (c : Command) : Type 0 where
   pub octets : length m ≡ object_at c.element c.count
   pub element : c.element ≡ element_octets c.kind
 
-pub sizes_of : (limit : ℕ) (m : List ℕ) (c : Command) → read_as limit SystemCommands m ≡ Parsed c → Sizes m c
+pub sizes_of : (limit : ℕ) (m : List ℕ) (c : Command) → read_as limit SystemCommands m ≡ Ok c → Sizes m c
 sizes_of limit m c e =
     let r = parsed_is limit SystemCommands m c e in
     record {
@@ -61,7 +61,7 @@ module _ (clock m : List ℕ) (c : Command) (t : Table) where
   said_interrogation e = simp (eq-eqb _ _ e)
 
   pub said_counters : (c.kind ≡ 100 → ⊥) → c.kind ≡ 101
-      → command_said clock m c t ≡ record { outcome = Done; answer = counter_answer c m t; told = []; after = after_counters t c.ca (qualifier_of m); clock = clock }
+      → command_said clock m c t ≡ record { outcome = done; answer = counter_answer c m t; told = []; after = after_counters t c.ca (qualifier_of m); clock = clock }
   unfolding command_said
   said_counters n e = simp (ne_eqb _ _ n, eq-eqb _ _ e)
 
@@ -97,20 +97,20 @@ silent_some c m h = let n : c.count ≡ 0 → ⊥ = λ q. omega arith in simp (n
 
 module _ (clock m : List ℕ) (t : Table) where
   -- No command was read: its number.
-  pub unread_says : (r : Reading) → ((c : Command) → r ≡ Parsed c → ⊥) → r ≡ read_as (limit_of t) SystemCommands m
+  pub unread_says : (r : Reading) → ((c : Command) → r ≡ Ok c → ⊥) → r ≡ read_as (limit_of t) SystemCommands m
       → ((system_said clock m t).outcome ≡ outcome_of r) × (is_done (outcome_of r) ≡ false)
   unfolding system_from
   unread_says r k e = let z = by_reading r k in (ap (λ (x : Reading). (system_from clock m x t).outcome) (sym e) ∙ z.0, z.1)
     where
-      by_reading : (x : Reading) → ((c : Command) → x ≡ Parsed c → ⊥) → ((system_from clock m x t).outcome ≡ outcome_of x) × (is_done (outcome_of x) ≡ false)
-      by_reading LengthOutOfRange k' = (refl, refl)
-      by_reading TypeNotServed k' = (refl, refl)
-      by_reading ObjectsNotWhole k' = (refl, refl)
-      by_reading (Parsed c) k' = absurd (k' c refl)
+      by_reading : (x : Reading) → ((c : Command) → x ≡ Ok c → ⊥) → ((system_from clock m x t).outcome ≡ outcome_of x) × (is_done (outcome_of x) ≡ false)
+      by_reading (Err LengthOutOfRange) k' = (refl, refl)
+      by_reading (Err TypeNotServed) k' = (refl, refl)
+      by_reading (Err ObjectsNotWhole) k' = (refl, refl)
+      by_reading (Ok c) k' = absurd (k' c refl)
 
-  module _ (c : Command) (e : read_as (limit_of t) SystemCommands m ≡ Parsed c) where
+  module _ (c : Command) (e : read_as (limit_of t) SystemCommands m ≡ Ok c) where
     -- A command that is passed over.
-    pub silent_says : is_silent c m ≡ true → (system_said clock m t).outcome ≡ Silent
+    pub silent_says : is_silent c m ≡ true → (system_said clock m t).outcome ≡ (Err Silent)
     unfolding system_from
     silent_says s = ap (λ (r : Reading). (system_from clock m r t).outcome) e ∙ simp s
 

@@ -12,7 +12,9 @@ use borrow.Author.Tests.{lt-ltb, eqb-true, eqb-false, eq-eqb, ne_eqb, leb-true, 
 use Rattle.limits.specs.Test.{◌&◌, pick, total}
 use Rattle.limits.specs.Share.{Sound, taken_in, let_go, admission_in, free_of, unmet_of}
 use Rattle.limits.specs.declared.share.Share.{Share}
-use Rattle.limits.specs.declared.share.Admission.TheVariants.{Admitted}
+use Rattle.std.specs.Prelude.{Ok, Err}
+use Rattle.limits.specs.Outcome.{Outcome, done}
+use Rattle.limits.specs.declared.outcome.Refusal.TheVariants.{CeilingReached, NotAdmitted}
 use Rattle.limits.proofs.Tests.{both, join}
 use Rattle.limits.proofs.Shares.{admitted_only, take_in_keeps_sound, let_go_keeps_sound, fresh_plan_sound, NothingHeld, reservation_of}
 use Rattle.model.specs.declared.Point.{Point}
@@ -181,7 +183,7 @@ insert_rises p low (q ∷ qs) l o k r =
 
 -- A point taken into a station that the share rule admits keeps the table good.
 pub good_added : (t : Table) (ca : ℕ) (p : Point) (s : Station) → Good t → Found ca t.stations s → point_ok p ≡ true → known p.ioa s.points ≡ false
-    → admission_in t.capacity (map share_of t.stations) (share_of s) ≡ Admitted → Good (added t ca p)
+    → admission_in t.capacity (map share_of t.stations) (share_of s) ≡ done → Good (added t ca p)
 unfolding added
 good_added t ca p s g w o k a =
     let k' : ℕ = t.capacity in
@@ -189,7 +191,7 @@ good_added t ca p s g w o k a =
     let A : List Share = map share_of w.after in
     let e : map share_of t.stations ≡ B ++ (share_of s ∷ A) = ap (map share_of) w.split ∙ shares_split w.before s w.after in
     let sound : Sound k' (B ++ (share_of s ∷ A)) = subst (Sound k') e (good_sound t g) in
-    let a' : admission_in k' (B ++ (share_of s ∷ A)) (share_of s) ≡ Admitted = ap (λ (l : List Share). admission_in k' l (share_of s)) (sym e) ∙ a in
+    let a' : admission_in k' (B ++ (share_of s ∷ A)) (share_of s) ≡ done = ap (λ (l : List Share). admission_in k' l (share_of s)) (sym e) ∙ a in
     let taken : Sound k' (B ++ (taken_in (share_of s) ∷ A)) = take_in_keeps_sound k' B (share_of s) A sound a' in
     let below : held s < s.ceiling = (admitted_only (share_of s) (free_of k' (B ++ (share_of s ∷ A))) (total unmet_of (B ++ (share_of s ∷ A))) a').below_ceiling in
     let more : (taken_in (share_of s)).held ≡ held (with_points (insert_in p) s) = simp (lt-ltb _ _ below) (sym (insert_length p s.points)) in

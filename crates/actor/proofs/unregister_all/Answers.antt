@@ -1,7 +1,7 @@
 -- Each way out is one law of removal. Assumes nothing.
 use mathlib.Core.Path.{◌≡◌, sym, ◌∙◌}
 use mathlib.Core.Bool.{true, false}
-use Rattle.limits.specs.declared.outcome.Outcome.TheVariants.{Done}
+use Rattle.limits.specs.Outcome.{done}
 use Rattle.octets.specs.Number.{Octets}
 use Rattle.table.specs.Memory.{well_formed}
 use Rattle.registry.specs.Registry.{unregistering_all}
@@ -36,4 +36,4 @@ returns c =
     let o : Octets m = λ k. omega (arith, c.slice_known-1.given k) in
     let z = all_done m o w in
     let n = c.take_all_out-removed.ensures.0 in
-    ((λ j. record { outcome = Done; place = n j }) ∙ z.0, c.take_all_out-removed.ensures.1 ∙ z.1)
+    ((λ j. record { outcome = done; place = n j }) ∙ z.0, c.take_all_out-removed.ensures.1 ∙ z.1)

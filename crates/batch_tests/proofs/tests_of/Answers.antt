@@ -2,8 +2,7 @@ use native.Mathlib.Omega.{arith}
 use mathlib.Core.Path.{◌≡◌, sym, ap, ◌∙◌}
 use Prim.Native.Nat.{◌<◌}
 use lib.ListN.{length, length-set}
-use Rattle.limits.specs.Outcome.{is_done}
-use Rattle.limits.specs.declared.outcome.Outcome.{Outcome}
+use Rattle.limits.specs.Outcome.{Outcome, is_done}
 use Rattle.batch_tests.proofs.Flags.{marked_on, asked_says}
 use Rattle.batch_tests.proofs.Flags.Marked.{none_marked}
 use Rattle.batch_tests.proofs.Laws.{own_on, own_stop, own_end, own_start}

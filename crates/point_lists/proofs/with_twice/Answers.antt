@@ -4,7 +4,7 @@ use mathlib.Core.Path.{◌≡◌, sym, ap, ◌∙◌}
 use mathlib.Core.Bool.{true, false}
 use Prim.Native.Nat.{ℕ}
 use lib.Dec.{eqb}
-use Rattle.limits.specs.Outcome.{number_of, is_done}
+use Rattle.limits.specs.Outcome.{is_done, number_of}
 use Rattle.point_lists.specs.Later.{with_twice}
 use Rattle.point_lists.proofs.with_twice.Goals as goal
 

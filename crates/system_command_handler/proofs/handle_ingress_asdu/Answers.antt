@@ -2,7 +2,8 @@
 use mathlib.Core.Path.{◌≡◌, refl, sym, ◌∙◌}
 use mathlib.Core.Bool.{true, false}
 use mathlib.Core.List.{[]}
-use Rattle.limits.specs.declared.outcome.Outcome.TheVariants.{Silent}
+use Rattle.std.specs.Prelude.{Err}
+use Rattle.limits.specs.declared.outcome.Refusal.TheVariants.{Silent}
 use Rattle.table.specs.Memory.{table_of}
 use Rattle.table.specs.Settings.{limit_of}
 use Rattle.asdu.proofs.Reading.{no_first, first_is}
@@ -15,7 +16,7 @@ use Rattle.system_command_handler.proofs.handle_ingress_asdu.Goals as goal
 use Rattle.system_command_handler.proofs.handle_ingress_asdu.Goals.{Start}
 
 -- a command that is silent
-silent_in : (s : Start) → is_silent s.args.command s.args.asdu.now ≡ true → ((system_said s.args.clock s.args.asdu.now) (table_of s.args.table.now)).outcome ≡ Silent
+silent_in : (s : Start) → is_silent s.args.command s.args.asdu.now ≡ true → ((system_said s.args.clock s.args.asdu.now) (table_of s.args.table.now)).outcome ≡ (Err Silent)
 silent_in s e = silent_says s.args.clock s.args.asdu.now (table_of s.args.table.now) s.args.command s.requires.1 e
 
 pub first_object-requires : goal.first_object-requires
@@ -28,14 +29,14 @@ returns-in_default c =
     let a = c.args in
     let n = no_first a.command a.asdu.now (sym c.first_object.ensures ∙ c.in_default.is) in
     rw (c.with_clock.ensures, c.nothing.ensures)
-    (ends_refused (system_said c.args.clock c.args.asdu.now) (lent c.args.table.now c.args.clock c.args.answer.now []) c.requires.0 Silent (silent_in (goal.at.returns-in_default c).Start (silent_none a.command a.asdu.now n)) refl)
+    (ends_refused (system_said c.args.clock c.args.asdu.now) (lent c.args.table.now c.args.clock c.args.answer.now []) c.requires.0 (Err Silent) (silent_in (goal.at.returns-in_default c).Start (silent_none a.command a.asdu.now n)) refl)
 
 pub returns-then-is_skipped : goal.returns-then-is_skipped
 returns-then-is_skipped c =
     let a = c.args in
     let n = (first_is a.command a.asdu.now _ _ (sym c.first_object.ensures ∙ c.in-Object.is)).some in
     let s : is_silent a.command a.asdu.now ≡ true = silent_some a.command a.asdu.now n ∙ sym c.is_skipped.ensures ∙ c.if-is_skipped.true in
-    rw (c.with_clock-then-is_skipped.ensures, c.nothing-then-is_skipped.ensures) (ends_refused (system_said c.args.clock c.args.asdu.now) (lent c.args.table.now c.args.clock c.args.answer.now []) c.requires.0 Silent (silent_in (goal.at.returns-then-is_skipped c).Start s) refl)
+    rw (c.with_clock-then-is_skipped.ensures, c.nothing-then-is_skipped.ensures) (ends_refused (system_said c.args.clock c.args.asdu.now) (lent c.args.table.now c.args.clock c.args.answer.now []) c.requires.0 (Err Silent) (silent_in (goal.at.returns-then-is_skipped c).Start s) refl)
 
 pub dispatch_rtu_system_handler-requires : goal.dispatch_rtu_system_handler-requires
 dispatch_rtu_system_handler-requires c =

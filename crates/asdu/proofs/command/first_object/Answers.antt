@@ -1,6 +1,6 @@
 -- Count 0 has no first object; otherwise the objects reach past octet 9.
 use borrow.Author.Tests.{eq-eqb, ne_eqb}
-use Rattle.asdu.specs.declared.command.FirstObject.TheVariants.{Object}
+use Rattle.std.specs.Prelude.{Some, None}
 use Rattle.asdu.proofs.command.first_object.Goals as goal
 
 pub returns-then-command-eq0 : goal.returns-then-command-eq0
@@ -9,4 +9,4 @@ returns-then-command-eq0 c = simp (eq-eqb _ _ c.if-command-eq0.true)
 pub returns : goal.returns
 returns c =
     let e = c.three_at.ensures.0 in
-    rw (ne_eqb _ _ c.if-command-eq0.false) (λ j. Object (e j) 9)
+    rw (ne_eqb _ _ c.if-command-eq0.false) (λ j. Some (e j, 9))

@@ -1,7 +1,7 @@
 -- Each return computes `read_as` by the tests that led there; a length that passed leaves six octets to read.
 use mathlib.Core.Path.{sym, ap, ◌∙◌}
 use lib.ListN.{length}
-use Rattle.asdu.specs.declared.command.Reading.TheVariants.{Parsed}
+use Rattle.std.specs.Prelude.{Ok, Err}
 use Rattle.asdu.specs.Command.{read_as}
 use Rattle.asdu.proofs.Reading.{header_there}
 use native.Mathlib.Omega.{arith}
@@ -49,4 +49,4 @@ returns c =
     let L = sym c.is_length.ensures ∙ c.if-not-is_length.false in
     let S = sym c.is_served.ensures ∙ c.if-not-is_served.false in
     let W = sym c.has_whole_objects.ensures ∙ c.if-not-has_whole_objects.false in
-    simp (L, S, W) (ap Parsed c.command_in.ensures)
+    simp (L, S, W) (ap Ok c.command_in.ensures)

@@ -4,7 +4,9 @@ use mathlib.Core.Bool.{Bool}
 use Prim.Native.Nat.{◌≤◌, ◌<◌}
 use borrow.Author.Tests.{le-leb, lt-leb, not-true, not-false}
 use Rattle.limits.specs.Test.{◌&◌, pick}
-use Rattle.limits.specs.declared.outcome.Outcome.TheVariants.{Done, NotCounter}
+use Rattle.std.specs.Prelude.{Err}
+use Rattle.limits.specs.Outcome.{done}
+use Rattle.limits.specs.declared.outcome.Refusal.TheVariants.{NotCounter}
 use Rattle.limits.specs.Size.{point_octets}
 use Rattle.model.specs.Request.{own_fault, counter_ok}
 use native.Mathlib.Omega.{arith}
@@ -14,7 +16,7 @@ use Rattle.model.proofs.registration.own_fault.Goals.{Else-not-group_ok-2}
 -- every test but the last passed
 but_counter : (c : Else-not-group_ok-2) →
     let q = c.args.q in
-    own_fault c.args.planned q ≡ pick (counter_ok q.kind q.counter) Done NotCounter
+    own_fault c.args.planned q ≡ pick (counter_ok q.kind q.counter) done (Err NotCounter)
 unfolding own_fault ◌&◌
 but_counter c =
     let q = c.args.q in
@@ -62,7 +64,7 @@ returns-then-not-group_ok-2 c =
     simp (le-leb _ _ k, le-leb _ _ a, not-false c.args.planned c.if-not-planned.false-raw, sym c.group_ok.ensures ∙ c.if-not-group_ok.false, sym c.group_ok-2.ensures ∙ c.if-not-group_ok-2.true)
 
 pub returns-then-not-counter_ok : goal.returns-then-not-counter_ok
-returns-then-not-counter_ok c = sym (but_counter (goal.at.returns-then-not-counter_ok c).Else-not-group_ok-2 ∙ ap (λ (b : Bool). pick b Done NotCounter) (sym c.counter_ok.ensures ∙ c.if-not-counter_ok.true))
+returns-then-not-counter_ok c = sym (but_counter (goal.at.returns-then-not-counter_ok c).Else-not-group_ok-2 ∙ ap (λ (b : Bool). pick b done (Err NotCounter)) (sym c.counter_ok.ensures ∙ c.if-not-counter_ok.true))
 
 pub returns : goal.returns
-returns c = sym (but_counter (goal.at.returns c).Else-not-group_ok-2 ∙ ap (λ (b : Bool). pick b Done NotCounter) (sym c.counter_ok.ensures ∙ c.if-not-counter_ok.false))
+returns c = sym (but_counter (goal.at.returns c).Else-not-group_ok-2 ∙ ap (λ (b : Bool). pick b done (Err NotCounter)) (sym c.counter_ok.ensures ∙ c.if-not-counter_ok.false))
