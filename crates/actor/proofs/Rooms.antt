@@ -20,7 +20,7 @@ use Rattle.wellformed.proofs.Shares.{share_law}
 use Rattle.lookup.specs.declared.Seat.TheVariants.{Here}
 use Rattle.lookup.specs.Seats.{seat_at}
 use Rattle.lookup.proofs.Laws.{seat_law}
-use Rattle.registry.specs.Registry.{admission_outcome, room_fault}
+use Rattle.registry.specs.Registry.{room_fault}
 use Rattle.actor.specs.Actor.{share_here, free_in, unmet_in, room_at}
 
 module _ (m : List ℕ) (o : Octets m) (w : well_formed m ≡ true) (ca i first h : ℕ) (e : seat_at m ca ≡ Here i first h) where

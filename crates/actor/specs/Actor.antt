@@ -11,7 +11,6 @@ use Rattle.table.specs.Memory.{sum_at, unmet_at}
 use Rattle.wellformed.specs.Station.{share_at}
 use Rattle.lookup.specs.declared.Spot.{Spot}
 use Rattle.lookup.specs.declared.Spot.TheVariants.{Held, Missing}
-use Rattle.registry.specs.Registry.{admission_outcome}
 use Rattle.registry.specs.Effect.{first_fault}
 use Rattle.registry.specs.declared.StationShare.{StationShare}
 

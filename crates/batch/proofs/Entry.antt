@@ -8,8 +8,7 @@ use Rattle.limits.specs.Outcome.{done, is_done}
 use Rattle.limits.proofs.Outcomes.{done_is}
 use Rattle.model.specs.declared.Request.{Request}
 use Rattle.table.specs.Memory.{well_formed, table_of}
-use Rattle.registry.specs.declared.Reply.{Reply}
-use Rattle.registry.specs.Effect.{Effect, holding, reply_on, memory_on}
+use Rattle.registry.specs.Effect.{Reply, Effect, holding, reply_on, memory_on}
 use Rattle.replies.specs.Replies.{Replies}
 use Rattle.replies.proofs.Ways.{of_table}
 use Rattle.registry.specs.Registry.{own_tests, room_tests, registering_all}

@@ -32,9 +32,8 @@ use Rattle.table.proofs.Cut.{total_at}
 use Rattle.lookup.specs.declared.Seat.{Seat}
 use Rattle.lookup.specs.declared.Seat.TheVariants.{Here, NotPlanned}
 use Rattle.lookup.specs.Seats.{seat_in, seat_at}
-use Rattle.registry.specs.declared.Reply.{Reply}
-use Rattle.registry.specs.Effect.{Effect, refused}
-use Rattle.registry.specs.Registry.{admission_outcome, room_fault, with_request, room_tests}
+use Rattle.registry.specs.Effect.{Reply, Effect, refused}
+use Rattle.registry.specs.Registry.{room_fault, with_request, room_tests}
 use Rattle.registry.specs.History.{Holding, holding_of}
 use Rattle.registry.proofs.Requests.{admitted_is}
 use Rattle.batch_records.proofs.Laws.{requests_on, requests_end}

@@ -13,8 +13,8 @@ use Rattle.lookup.specs.declared.Seat.TheVariants.{Here, NotPlanned}
 use Rattle.lookup.specs.Seats.{seat_at}
 use Rattle.table.specs.Table.{Station, Table, held}
 use Rattle.wellformed.specs.Station.{share_at}
-use Rattle.registry.specs.declared.Reply.{Reply}
-use Rattle.registry.specs.Registry.{admission_outcome, room_tests}
+use Rattle.registry.specs.Effect.{Reply}
+use Rattle.registry.specs.Registry.{room_tests}
 use Rattle.registry.specs.History.{Holding, holding_of}
 use Rattle.batch_room.specs.declared.Standing.{Standing}
 

@@ -19,9 +19,8 @@ use Rattle.table.specs.Change.{station_of}
 use Rattle.table.specs.Memory.{parse}
 use Rattle.table.proofs.Parse.{Good, good_is, parse_sound}
 use Rattle.table.proofs.Change.{station_found}
-use Rattle.registry.specs.declared.Reply.{Reply}
+use Rattle.registry.specs.Effect.{Reply, Effect, reply_from, reply_on}
 use Rattle.registry.specs.declared.StationShare.{StationShare}
-use Rattle.registry.specs.Effect.{Effect, reply_from, reply_on}
 use Rattle.registry.specs.Registry.{room_fault, with_request, batch_fault, own_tests, room_tests, registering_all, unregistering_all, no_share, share_in, share_from, share_on}
 use Rattle.registry.proofs.Histories.{station_numbers}
 use Rattle.khuvelter.specs.Interface.{narrowed}

@@ -1,7 +1,7 @@
 -- The C interface's plain numbers: what each entry's answer becomes at the boundary. DESIGN.md, section 5.
 use Rattle.std.specs.Prelude.{Bool, not, eqb, ℕ, ◌%◌}
 use Rattle.limits.specs.Outcome.{Outcome, number_of}
-use Rattle.registry.specs.declared.Reply as registry
+use Rattle.registry.specs.Effect as registry
 use Rattle.registry.specs.declared.StationShare.{StationShare}
 use Rattle.answers.specs.declared.Answered.{Answered}
 use Rattle.khuvelter.specs.declared.Reply.{Reply}

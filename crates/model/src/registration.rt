@@ -6,7 +6,7 @@ ghost use Rattle.model.specs.Request.{record_size, group_ok, counter_ok, group_n
 
 use crate::{COUNTER_GROUPS, GROUPS, Group, HIGHEST_IOA, M_IT_NA_1, M_IT_TB_1, Point, Request};
 use layout::VALUE_SIZE;
-use limits::outcome::Outcome;
+use limits::outcome::Refusal;
 
 // A record's group: the first octet says whether there is one.
 fn given_group(has: u8, group: u8) -> Group
@@ -76,30 +76,30 @@ fn counter_ok(kind: u8, counter: Group) -> bool
 }
 
 // The first of the tests 11 to 15 that fails, `planned` being whether the plan has the CA.
-pub fn own_fault(planned: bool, q: Request) -> Outcome
+pub fn own_fault(planned: bool, q: Request) -> Result<(), Refusal>
     ensures { result ≡ own_fault planned q }
 {
     if limits::size::point_octets(q.kind) < 1 {
-        return Outcome::UnknownTypeOrAddress;
+        return Err(Refusal::UnknownTypeOrAddress);
     }
     if HIGHEST_IOA < q.ioa {
-        return Outcome::UnknownTypeOrAddress;
+        return Err(Refusal::UnknownTypeOrAddress);
     }
     if !planned {
-        return Outcome::StationNotPlanned;
+        return Err(Refusal::StationNotPlanned);
     }
     let group = q.group;
     if !group_ok(GROUPS, group) {
-        return Outcome::GroupOutOfRange;
+        return Err(Refusal::GroupOutOfRange);
     }
     let counter = q.counter;
     if !group_ok(COUNTER_GROUPS, counter) {
-        return Outcome::CounterGroupOutOfRange;
+        return Err(Refusal::CounterGroupOutOfRange);
     }
     if !counter_ok(q.kind, counter) {
-        return Outcome::NotCounter;
+        return Err(Refusal::NotCounter);
     }
-    Outcome::Done
+    Ok(())
 }
 
 // The number that a place keeps for a group: 0 for none.

@@ -20,8 +20,7 @@ use Rattle.table.specs.Table.{Table}
 use Rattle.table.specs.Memory.{well_formed, table_of}
 use Rattle.table.specs.Change.{station_of}
 use Rattle.table.proofs.Parse.{Good, holds, parse_some, parse_none}
-use Rattle.registry.specs.declared.Reply.{Reply}
-use Rattle.registry.specs.Effect.{Effect, first_fault, holding, reply_from, memory_from, reply_on, memory_on}
+use Rattle.registry.specs.Effect.{Reply, Effect, first_fault, holding, reply_from, memory_from, reply_on, memory_on}
 use Rattle.registry.specs.History.{AllTwelve}
 use Rattle.registry.specs.Registry.{is_planned, is_registered, stands_in, batch_fault, own_tests, room_tests, registering_all}
 use Rattle.registry.proofs.Batches.{own_tests_ready}

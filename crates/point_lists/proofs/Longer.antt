@@ -24,10 +24,9 @@ use Rattle.table.specs.Change.{station_of, with_points, insert_in, added}
 use Rattle.table.proofs.Parse.{Good}
 use Rattle.table.proofs.Change.{station_found, stations_split, insert_length}
 use Rattle.table.proofs.Cut.{total_at}
-use Rattle.registry.specs.declared.Reply.{Reply}
-use Rattle.registry.specs.Effect.{Effect, refused, first_fault}
+use Rattle.registry.specs.Effect.{Reply, Effect, refused, first_fault}
 use Rattle.registry.specs.History.{AllTwelve}
-use Rattle.registry.specs.Registry.{is_planned, admission_outcome, room_fault, is_registered, with_request, stands_in, batch_fault, own_tests, room_tests, registering_all}
+use Rattle.registry.specs.Registry.{is_planned, room_fault, is_registered, with_request, stands_in, batch_fault, own_tests, room_tests, registering_all}
 use Rattle.registry.proofs.Requests.{accepted_good, planned_is}
 use Rattle.registry.proofs.Batches.{Ready, ready_more, ready_after, passes_accepted}
 

@@ -4,7 +4,7 @@ use mathlib.Core.List.{List, map}
 use Prim.Native.Nat.{ℕ}
 use Rattle.octets.specs.Number.{Octets}
 use Rattle.model.specs.declared.Request.{Request}
-use Rattle.registry.specs.declared.Reply.{Reply}
+use Rattle.registry.specs.Effect.{Reply}
 use Rattle.replies.specs.Replies.{Replies}
 use Rattle.registry.specs.Registry.{registering_all}
 use Rattle.points.specs.Points.{whole, deciding_octets, batch_of}

@@ -5,7 +5,7 @@ use Rattle.limits.specs.Outcome.{Outcome, done, is_done, number_of}
 use Rattle.limits.specs.declared.outcome.Refusal.TheVariants.{TableNotWellFormed, AddressTwice}
 use Rattle.model.specs.declared.Request.{Request}
 use Rattle.table.specs.Memory.{well_formed, table_of}
-use Rattle.registry.specs.declared.Reply.{Reply}
+use Rattle.registry.specs.Effect.{Reply}
 use Rattle.registry.specs.Registry.{own_tests}
 use Rattle.points.specs.Points.{whole, deciding}
 use Rattle.among.specs.declared.Search.{Search}

@@ -19,8 +19,7 @@ use Rattle.model.specs.Request.{given_group, request_at, requests_at}
 use Rattle.table.proofs.Points.{gets, gets_drop}
 use Rattle.registry.specs.History.{Twelve, AllTwelve}
 use Rattle.batch_records.specs.Records.{requests_in}
-use Rattle.registry.specs.declared.Reply.{Reply}
-use Rattle.registry.specs.Effect.{reply_on, memory_on}
+use Rattle.registry.specs.Effect.{Reply, reply_on, memory_on}
 use Rattle.registry.specs.Registry.{registering_all}
 use Rattle.points.specs.Points.{has_of, number_in, flat_record, flat_records, whole, batch_of}
 use Rattle.points.specs.Fold.{Both, stepped, folded, none_taken}

@@ -2,8 +2,7 @@
 use Rattle.std.specs.Prelude.{◌≡◌, List, ℕ, ◌*◌, length, take}
 use Rattle.model.specs.declared.Request.{Request}
 use Rattle.batch_records.specs.Records.{record_octets, requests_in}
-use Rattle.registry.specs.declared.Reply.{Reply}
-use Rattle.registry.specs.Effect.{reply_on, memory_on}
+use Rattle.registry.specs.Effect.{Reply, reply_on, memory_on}
 use Rattle.registry.specs.Registry.{registering_all}
 use Rattle.points.specs.Points.{batch_of}
 use Rattle.points.specs.Fold.{folded, none_taken}

@@ -18,8 +18,7 @@ use Rattle.table.specs.Table.{Station, Table}
 use Rattle.table.specs.Change.{station_of}
 use Rattle.table.specs.Memory.{parse}
 use Rattle.report.specs.Selection.{among}
-use Rattle.registry.specs.declared.Reply.{Reply as TableReply}
-use Rattle.registry.specs.Effect.{Effect, first_fault, reply_on, memory_on}
+use Rattle.registry.specs.Effect.{Reply as TableReply, Effect, first_fault, reply_on, memory_on}
 use Rattle.registry.specs.Registry.{share_in, share_from}
 use Rattle.registry.specs.Opening.{opens, open_outcome, opened_memory}
 use Rattle.registry.proofs.Effects.{refusal_keeps_memory}

@@ -23,9 +23,8 @@ use Rattle.table.specs.Settings.{limit_of}
 use Rattle.table.specs.Change.{station_of, removed}
 use Rattle.table.specs.Memory.{parse}
 use Rattle.report.specs.Selection.{among}
-use Rattle.registry.specs.declared.Reply.{Reply as TableReply}
-use Rattle.registry.specs.Effect.{Effect, refused, accepted, first_fault, reply_from, reply_on}
-use Rattle.registry.specs.Registry.{is_planned, is_registered, admission_outcome, room_fault, registered_fault, request_outcome, with_request, registering, stands_in, batch_fault, own_tests, room_tests, registering_all, unregistering, unregistering_all}
+use Rattle.registry.specs.Effect.{Reply as TableReply, Effect, refused, accepted, first_fault, reply_from, reply_on}
+use Rattle.registry.specs.Registry.{is_planned, is_registered, room_fault, registered_fault, request_outcome, with_request, registering, stands_in, batch_fault, own_tests, room_tests, registering_all, unregistering, unregistering_all}
 use Rattle.registry.specs.Opening.{opens}
 use Rattle.batch_records.specs.Records.{requests_in}
 use Rattle.asdu.specs.declared.command.Command.{Command}

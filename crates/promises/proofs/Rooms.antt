@@ -21,7 +21,7 @@ use Rattle.table.proofs.Parse.{Good}
 use Rattle.table.proofs.Shares.{total_held, total_unmet}
 use Rattle.registry.specs.Effect.{Effect, refused, first_fault}
 use Rattle.registry.specs.Opening.{planned}
-use Rattle.registry.specs.Registry.{is_planned, is_registered, admission_outcome, room_fault, registered_fault, request_outcome, with_request, stands_in, batch_fault, own_tests, room_tests, registering_all}
+use Rattle.registry.specs.Registry.{is_planned, is_registered, room_fault, registered_fault, request_outcome, with_request, stands_in, batch_fault, own_tests, room_tests, registering_all}
 use Rattle.registry.specs.History.{AllTwelve}
 use Rattle.registry.proofs.Batches.{own_tests_ready, turn_good}
 use Rattle.registry.proofs.Batches as batches

@@ -19,8 +19,7 @@ use Rattle.model.specs.Request.{request_at}
 use Rattle.table.specs.Table.{Station, Table, held}
 use Rattle.table.specs.Change.{station_of}
 use Rattle.table.proofs.Parse.{Good, good_is, is_good}
-use Rattle.registry.specs.declared.Reply.{Reply as TableReply}
-use Rattle.registry.specs.Effect.{reply_from, reply_on}
+use Rattle.registry.specs.Effect.{Reply as TableReply, reply_from, reply_on}
 use Rattle.registry.specs.Opening.{planned, opens, fresh, opened_memory}
 use Rattle.registry.specs.Registry.{room_fault, request_outcome, registering, registering_all}
 use Rattle.registry.specs.History.{held_by, tally_after, memory_after as memory_after_all}

@@ -5,9 +5,8 @@ use mathlib.Core.List.{List}
 use Prim.Native.Nat.{ℕ}
 use Rattle.limits.specs.Outcome.{Outcome}
 use Rattle.table.specs.Table.{Table}
-use Rattle.registry.specs.declared.Reply.{Reply}
+use Rattle.registry.specs.Effect.{Reply, Effect}
 use Rattle.registry.specs.declared.StationShare.{StationShare}
-use Rattle.registry.specs.Effect.{Effect}
 use Rattle.replies.specs.Replies.{Replies}
 use Rattle.registry.specs.Opening.{open_outcome, opened_memory}
 use Rattle.registry.specs.Registry.{share_on}

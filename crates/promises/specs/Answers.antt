@@ -8,8 +8,7 @@ use Rattle.octets.specs.Number.{Octets}
 use Rattle.table.specs.Table.{Table}
 use Rattle.table.specs.Memory.{parse}
 use Rattle.report.specs.Selection.{among}
-use Rattle.registry.specs.declared.Reply.{Reply as TableReply}
-use Rattle.registry.specs.Effect.{Effect}
+use Rattle.registry.specs.Effect.{Reply as TableReply, Effect}
 use Rattle.replies.specs.Replies.{Replies}
 use Rattle.registry.specs.Registry.{share_on}
 use Rattle.registry.specs.Opening.{planned, table_octets, open_outcome, opened_memory}

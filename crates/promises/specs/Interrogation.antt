@@ -10,9 +10,8 @@ use Rattle.table.specs.Table.{Station, Table}
 use Rattle.table.specs.Settings.{limit_of}
 use Rattle.table.specs.Change.{station_of}
 use Rattle.table.specs.Memory.{table_of, well_formed}
-use Rattle.registry.specs.declared.Reply.{Reply as TableReply}
+use Rattle.registry.specs.Effect.{Reply as TableReply, Effect}
 use Rattle.registry.specs.declared.StationShare.{StationShare}
-use Rattle.registry.specs.Effect.{Effect}
 use Rattle.replies.specs.Replies.{Replies}
 use Rattle.registry.specs.Opening.{open_outcome, opened_memory}
 use Rattle.registry.specs.Registry.{share_on}

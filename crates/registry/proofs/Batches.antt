@@ -21,7 +21,7 @@ use Rattle.table.proofs.Change.{changed_station, other_station, known_insert}
 use Rattle.registry.specs.Effect.{Effect, refused}
 use Rattle.registry.specs.Registry.{is_planned, is_registered, room_fault, with_request, stands_in, batch_fault, own_tests, room_tests}
 use Rattle.registry.specs.History.{Twelve, AllTwelve, held_at, requests_of}
-use Rattle.registry.proofs.Requests.{Accepted, accepted_good, held_added, described, planned_is, admitted_is, unregistered_is}
+use Rattle.registry.proofs.Requests.{Accepted, accepted_good, held_added, described, planned_is, unregistered_is}
 
 -- ---- requests that have passed 11 to 17
 
@@ -136,7 +136,7 @@ passes_accepted t q w p r =
       found = s.1;
       described = d.1;
       new = sym (ap (is_registered q.ioa) s.1) ∙ p.new;
-      admitted = admitted_is _ (sym (ap (room_fault t) s.1) ∙ r);
+      admitted = sym (ap (room_fault t) s.1) ∙ r;
     }
 
 -- At every turn the table is good and the request passes.

@@ -27,7 +27,7 @@ use Rattle.table.proofs.Parse.{Good, good_is, is_good}
 use Rattle.table.proofs.Shares.{good_sound}
 use Rattle.table.proofs.Change.{station_found, shares_split, good_removed, good_emptied}
 use Rattle.registry.specs.Effect.{Effect, next, reply_from, reply_on, memory_on}
-use Rattle.registry.specs.Registry.{is_registered, admission_outcome, room_fault, request_outcome, with_request, own_tests, room_tests, registering, registering_all, unregistering, unregistering_all}
+use Rattle.registry.specs.Registry.{is_registered, room_fault, request_outcome, with_request, own_tests, room_tests, registering, registering_all, unregistering, unregistering_all}
 use Rattle.registry.specs.History.{Holding, holding_of, Line, line_of, Quiet, Twelve, AllTwelve, Call, effect_of, requests_of, Tally, granted_by, removed_by, counted, held_by, held_at, memory_after, tally_after}
 use Rattle.registry.specs.History.Call.{register, register_all, unregister, unregister_all, command}
 use Rattle.registry.proofs.Effects.{parse_after}
@@ -67,7 +67,7 @@ below_reservation_has_room t ca s g e h =
     let n = station_numbers t ca s g e in
     let a : admission_in k (B ++ (share_of s ∷ A)) (share_of s) ≡ done = below_reservation_admitted k B (share_of s) A sound n.reservation_within h in
     let a' : admission_in k (map share_of t.stations) (share_of s) ≡ done = ap (λ (l : List Share). admission_in k l (share_of s)) split ∙ a in
-    ap (room_fault t) e ∙ ap admission_outcome a'
+    ap (room_fault t) e ∙ a'
 
 -- A well-formed, unregistered point of a planned station holding less than its reservation is granted when registered alone.
 pub granted_alone : (t : Table) (q : Request) (s : Station) → Good t → Passes t q → station_of q.ca t.stations ≡ some s → held s < s.reservation

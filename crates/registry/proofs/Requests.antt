@@ -24,7 +24,7 @@ use Rattle.table.specs.Table.{Station, Table, held, share_of}
 use Rattle.table.specs.Change.{station_of, with_points, changed, known, insert_in, remove_in, added, removed}
 use Rattle.table.proofs.Parse.{Good}
 use Rattle.table.proofs.Change.{station_found, good_added, changed_station, other_station, insert_length, remove_length}
-use Rattle.registry.specs.Registry.{is_planned, is_registered, admission_outcome, registered_fault, with_request}
+use Rattle.registry.specs.Registry.{is_planned, is_registered, registered_fault, with_request}
 use Rattle.registry.specs.History.{Twelve, held_by, held_at}
 
 -- ---- what an accepted request says
@@ -39,11 +39,6 @@ pub planned_is : (o : Option Station) → is_planned o ≡ true → (s : Station
 unfolding is_planned
 planned_is none e = not_both e
 planned_is (some s) e = (s, refl)
-
-pub admitted_is : (a : Outcome) → admission_outcome a ≡ done → a ≡ done
-admitted_is done e = refl
-admitted_is (Err CeilingReached) e = not_both (ap is_done e)
-admitted_is (Err NotAdmitted) e = not_both (ap is_done e)
 
 pub unregistered_is : (q : Request) (o : Option Station) → registered_fault q o ≡ done → is_registered q.ioa o ≡ false
 unregistered_is q o e = by_test (is_registered q.ioa o) e

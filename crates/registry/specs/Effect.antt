@@ -7,13 +7,18 @@ use Rattle.limits.specs.Outcome.{Outcome, done, is_done}
 use Rattle.limits.specs.declared.outcome.Refusal.TheVariants.{TableNotWellFormed}
 use Rattle.table.specs.Table.{Table, image}
 use Rattle.table.specs.Memory.{parse}
-use Rattle.registry.specs.declared.Reply.{Reply}
 
 -- What a call says to a table: its outcome, the place or number that goes with it, and the table after it (which counts only with Done).
 pub record Effect : Type 0 where
   pub outcome : Outcome
   pub place : ℕ
   pub after : Table
+
+-- What a call that changes the table gives back: its outcome, and the place of the faulty point of a refused batch, or the number of points
+-- that the removal of all let go, or 0.
+pub record Reply : Type 0 where
+  pub outcome : Outcome
+  pub place : ℕ
 
 -- A refusal.
 abbrev pub refused : Outcome → ℕ → Table → Effect

@@ -7,8 +7,7 @@ use Rattle.limits.specs.Outcome.{is_done}
 use Rattle.model.specs.declared.Request.{Request}
 use Rattle.table.specs.Table.{Station, Table, good}
 use Rattle.table.specs.Change.{station_of}
-use Rattle.registry.specs.declared.Reply.{Reply}
-use Rattle.registry.specs.Effect.{Effect, next, reply_on, memory_on}
+use Rattle.registry.specs.Effect.{Reply, Effect, next, reply_on, memory_on}
 use Rattle.registry.specs.Registry.{registering, registering_all, unregistering, unregistering_all}
 
 -- A station without its points' contents: its address, its numbers, and how many it holds.

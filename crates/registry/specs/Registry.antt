@@ -1,9 +1,10 @@
 -- Registration of one point and of a batch, removal, and a station's share, said of a table.
 -- Document 01, 'Points, stations and shares' and 'Numbers given back'.
-use Rattle.std.specs.Prelude.{ℕ, ◌+◌, ◌-◌, List, [], ◌∷◌, map, Bool, true, false, eqb, Ok, Err}
+use Rattle.std.specs.Prelude.{ℕ, ◌+◌, ◌-◌, List, [], ◌∷◌, map, Bool, true, false, eqb, Ok, Err, Result}
 use Rattle.std.proofs.Math.Option.{Option, none, some}
 use Rattle.limits.specs.Test.{◌&◌, pick, total}
 use Rattle.limits.specs.Share.{admission_in}
+use Rattle.limits.specs.declared.outcome.Refusal.{Refusal}
 use Rattle.limits.specs.Outcome.{Outcome, done, is_done}
 use Rattle.limits.specs.declared.outcome.Refusal.TheVariants.{TableNotWellFormed, StationNotPlanned, AddressTwice, AlreadyRegistered, NotRegistered, CeilingReached, NotAdmitted}
 use Rattle.model.specs.declared.Request.{Request}
@@ -11,9 +12,8 @@ use Rattle.model.specs.Request.{own_fault, point_of}
 use Rattle.table.specs.Table.{Station, Table, held, unmet, share_of}
 use Rattle.table.specs.Memory.{parse}
 use Rattle.table.specs.Change.{station_of, known, added, removed, emptied}
-use Rattle.registry.specs.declared.Reply.{Reply}
+use Rattle.registry.specs.Effect.{Reply, Effect, refused, accepted, first_fault}
 use Rattle.registry.specs.declared.StationShare.{StationShare}
-use Rattle.registry.specs.Effect.{Effect, refused, accepted, first_fault}
 
 -- ---- one point
 
@@ -27,16 +27,10 @@ unfoldable pub is_registered : ℕ → Option Station → Bool
 is_registered ioa none = false
 is_registered ioa (some s) = known ioa s.points
 
--- The outcome that goes with what the share rule answers.
-abbrev pub admission_outcome : Outcome → Outcome
-admission_outcome done = done
-admission_outcome (Err CeilingReached) = (Err CeilingReached)
-admission_outcome (Err NotAdmitted) = (Err NotAdmitted)
-
 -- The share rule's answer to one more point of a station of the table.
 unfoldable pub room_fault : Table → Option Station → Outcome
 room_fault t none = (Err StationNotPlanned)
-room_fault t (some s) = admission_outcome (admission_in t.capacity (map share_of t.stations) (share_of s))
+room_fault t (some s) = admission_in t.capacity (map share_of t.stations) (share_of s)
 
 -- Already registered (17)?
 abbrev pub registered_fault : Request → Option Station → Outcome
@@ -99,14 +93,11 @@ unregistering_all t = accepted (total held t.stations) (emptied t)
 
 -- ---- a station's share
 
-abbrev pub no_share : Outcome → StationShare
-no_share o = record { outcome = o; reservation = 0; ceiling = 0; held = 0; free = 0; unmet = 0 }
-
-unfoldable pub share_in : Table → Option Station → StationShare
-share_in t none = no_share (Err StationNotPlanned)
+unfoldable pub share_in : Table → Option Station → Result StationShare Refusal
+share_in t none = Err StationNotPlanned
 share_in t (some s) =
+    Ok
     record {
-      outcome = done;
       reservation = s.reservation;
       ceiling = s.ceiling;
       held = held s;
@@ -114,10 +105,10 @@ share_in t (some s) =
       unmet = total unmet t.stations;
     }
 
-unfoldable pub share_from : ℕ → Option Table → StationShare
-share_from ca none = no_share (Err TableNotWellFormed)
+unfoldable pub share_from : ℕ → Option Table → Result StationShare Refusal
+share_from ca none = Err TableNotWellFormed
 share_from ca (some t) = share_in t (station_of ca t.stations)
 
 -- The share of a station, as a lent memory says: 3, then 12.
-abbrev pub share_on : ℕ → List ℕ → StationShare
+abbrev pub share_on : ℕ → List ℕ → Result StationShare Refusal
 share_on ca m = share_from ca (parse m)

@@ -1,20 +1,18 @@
 // What registration, removal and opening mean, said of a table: definitions and their laws. The code that does it stands in `rtu_server`.
 #![tactic(auto)]
 
-use limits::outcome::Outcome;
+use limits::outcome::Refusal;
 
-// What a call that changes the table gives back: its outcome, and the place of the faulty point of a refused batch,
-// or the number of points that the removal of all let go, or 0.
-#[derive(Clone, Copy)]
-pub struct Reply {
-    pub outcome: Outcome,
+// Why a batch is refused, and the place of the faulty point.
+#[derive(Clone, Copy, Debug, PartialEq, Eq)]
+pub struct Fault {
+    pub refusal: Refusal,
     pub place: usize,
 }
 
 // The share of a station, with what is free and unmet in the whole table.
-#[derive(Clone, Copy)]
+#[derive(Clone, Copy, Debug, PartialEq, Eq)]
 pub struct StationShare {
-    pub outcome: Outcome,
     pub reservation: usize,
     pub ceiling: usize,
     pub held: usize,

@@ -2,8 +2,7 @@
 use Rattle.std.specs.Prelude.{◌≡◌, List, ℕ}
 use Rattle.limits.specs.Outcome.{Outcome}
 use Rattle.table.specs.Table.{Table}
-use Rattle.registry.specs.declared.Reply.{Reply}
-use Rattle.registry.specs.Effect.{Effect, reply_on, memory_on}
+use Rattle.registry.specs.Effect.{Reply, Effect, reply_on, memory_on}
 
 -- A call with this effect on a table, lent a memory m, gives r back and leaves m'.
 abbrev pub Replies : (Table → Effect) → List ℕ → Reply → List ℕ → Type 0

@@ -2,7 +2,6 @@
 use mathlib.Core.Path.{ap, ◌∙◌}
 use Rattle.limits.specs.Share.{admission_of}
 use Rattle.registry.specs.declared.StationShare.{StationShare}
-use Rattle.registry.specs.Registry.{admission_outcome}
 use Rattle.actor.specs.Actor.{room_at, station_share_at}
 use Rattle.actor.proofs.room_at.Goals as goal
 

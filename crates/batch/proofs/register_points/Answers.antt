@@ -7,7 +7,7 @@ use Rattle.limits.specs.Outcome.{is_done}
 use Rattle.limits.proofs.Outcomes.{done_is}
 use Rattle.table.specs.Memory.{well_formed, table_of}
 use Rattle.table.proofs.Parse.{passed}
-use Rattle.registry.specs.declared.Reply.{Reply}
+use Rattle.registry.specs.Effect.{Reply}
 use Rattle.registry.specs.Registry.{own_tests}
 use Rattle.batch_records.specs.Records.{requests_in}
 use Rattle.replies.proofs.Ways.{no_table}

@@ -1,7 +1,6 @@
 -- The answer and the two numbers, each from the function that makes it. Assumes nothing.
 use mathlib.Core.Path.{ap, ap₂, ◌∙◌}
 use Prim.Native.Nat.{◌-◌}
-use Rattle.registry.specs.Registry.{admission_outcome}
 use Rattle.limits.specs.Share.{unmet_of}
 use Rattle.batch_room.specs.Room.{standing_of}
 use Rattle.batch_room.proofs.ask.Goals as goal

@@ -7,7 +7,7 @@ use Prim.Native.Nat.{ℕ}
 use Rattle.limits.specs.Test.{pick as choose}
 use Rattle.table.specs.Memory.{well_formed, table_of}
 use Rattle.batch_records.specs.Records.{requests_in}
-use Rattle.registry.specs.declared.Reply.{Reply}
+use Rattle.registry.specs.Effect.{Reply}
 use Rattle.registry.specs.Registry.{own_tests}
 use Rattle.point_lists.specs.Later.{with_twice, later_fault}
 use Rattle.point_lists.proofs.Alone.{alone_law}

@@ -2,8 +2,7 @@
 use Rattle.std.proofs.Common.{◌≡◌, ℕ, List, length, ap, ◌∙◌}
 use lib.ListN.{replicate, length-replicate}
 use Rattle.model.specs.declared.Request.{Request}
-use Rattle.registry.specs.declared.Reply.{Reply}
-use Rattle.registry.specs.Effect.{reply_on, memory_on}
+use Rattle.registry.specs.Effect.{Reply, reply_on, memory_on}
 use Rattle.registry.specs.Registry.{registering_all}
 use Rattle.replies.specs.Replies.{Replies}
 use Rattle.points.specs.Points.{deciding_octets, batch_of}
