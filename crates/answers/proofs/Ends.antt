@@ -22,8 +22,7 @@ use Rattle.table.specs.Table.{Table}
 use Rattle.table.specs.Memory.{table_of, well_formed, parse}
 use Rattle.table.proofs.Parse.{passed, printed, parse_some, parse_none}
 use Rattle.registry.specs.Effect.{holding}
-use Rattle.answers.specs.declared.Answered.{Answered}
-use Rattle.answers.specs.Said.{Said, Lent, lent, says, size, fits, fronted, outcome_with, answered_from, lent_from, Leaves, as_it_is, nothing, given, sent, left, Sends, with_table}
+use Rattle.answers.specs.Said.{Answered, Said, Lent, lent, says, size, fits, fronted, outcome_with, answered_from, lent_from, Leaves, as_it_is, nothing, given, sent, left, Sends, with_table}
 
 -- What is written at the front of a memory, in the words of `octets` and of `Said`.
 pub front_is : (m : List ℕ) (xs : List Asdu) → over m 0 (wire xs) ≡ fronted xs m

@@ -8,7 +8,7 @@ use native.Mathlib.Omega.{arith}
 use lib.ListN.{length}
 use lib.Dec.{eqb}
 use Rattle.limits.specs.Test.{pick}
-use Rattle.std.specs.Prelude.{Ok, Err}
+use Rattle.std.specs.Prelude.{Ok, Err, Some, None}
 use Rattle.limits.specs.Outcome.{is_done}
 use Rattle.asdu.specs.Command.{Reading}
 use Rattle.asdu.specs.declared.command.Unread.TheVariants.{LengthOutOfRange, TypeNotServed, ObjectsNotWhole}
@@ -24,8 +24,7 @@ use Rattle.asdu.specs.Header.{global_address}
 use Rattle.asdu.specs.declared.command.Command.{Command}
 use Rattle.report.specs.declared.Selection.{Selection}
 use Rattle.report.specs.Order.{points_of}
-use Rattle.answers.specs.declared.Choice.{Choice}
-use Rattle.answers.specs.declared.Choice.TheVariants.{Selected, Denied}
+use Rattle.answers.specs.Choice.{Choice}
 use Rattle.answers.specs.Said.{Said, Lent, outcome_with}
 use Rattle.answers.specs.System.{chosen, qualifier_of, reset_in, reset_at, reset_by, resets, after_counters, command_said, system_from, system_said, is_silent, interrogation_type, counters_type, read_type}
 use Rattle.answers.specs.Process.{Update, Proposal, update_octets, updates_at, updated, update_of, replace_in, table_with, table_after, read_updates, process_cause_taken, proposal_ok, process_from, process_said}
@@ -93,8 +92,8 @@ reset_still t ca sel = by_test (eqb ca global_address)
 
 choice_still : (t : Table) (ca : ℕ) (o : Choice) → Still t (reset_by t ca o)
 unfolding reset_by
-choice_still t ca Denied = still_same t
-choice_still t ca (Selected sel) = reset_still t ca sel
+choice_still t ca None = still_same t
+choice_still t ca (Some sel) = reset_still t ca sel
 
 counters_still : (t : Table) (ca q : ℕ) → Still t (after_counters t ca q)
 unfolding after_counters
@@ -117,9 +116,7 @@ command_still clock m c t =
 
 system_still : (clock m : List ℕ) (r : Reading) (t : Table) → Still t (system_from clock m r t).after
 unfolding system_from
-system_still clock m (Err LengthOutOfRange) t = still_same t
-system_still clock m (Err TypeNotServed) t = still_same t
-system_still clock m (Err ObjectsNotWhole) t = still_same t
+system_still clock m (Err unread) t = still_same t
 system_still clock m (Ok c) t = pick_still t (is_silent c m) _ _ (still_same t) (command_still clock m c t)
 
 -- Every system command is quiet.
@@ -189,9 +186,7 @@ read_whole p w = by_test p.negative
 
 process_still : (clock : List ℕ) (p : Proposal) → AllWhole p.updates → (r : Reading) (t : Table) → Still t (process_from clock p r t).after
 unfolding process_from
-process_still clock p w (Err LengthOutOfRange) t = still_same t
-process_still clock p w (Err TypeNotServed) t = still_same t
-process_still clock p w (Err ObjectsNotWhole) t = still_same t
+process_still clock p w (Err unread) t = still_same t
 process_still clock p w (Ok c) t =
     pick_still t (process_cause_taken c.cause) _ _
     (pick_still t (proposal_ok (limit_of t) p.kind p.objects) _ _ (updates_still t (read_updates p) (read_whole p w)) (still_same t))

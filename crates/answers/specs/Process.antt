@@ -5,7 +5,7 @@ use Rattle.limits.specs.Test.{◌&◌, pick}
 use Rattle.limits.specs.Size.{class_of, element_octets, point_octets, control_octets, header_octets, address_octets}
 use Rattle.limits.specs.Outcome.{done}
 use Rattle.limits.specs.declared.outcome.Refusal.TheVariants.{Silent, BadProposal}
-use Rattle.asdu.specs.Command.{Reading, read_as, outcome_of, is_process}
+use Rattle.asdu.specs.Command.{Reading, read_as, refusal_of, is_process}
 use Rattle.asdu.specs.declared.command.Unread.TheVariants.{LengthOutOfRange, TypeNotServed, ObjectsNotWhole}
 use Rattle.octets.specs.Number.{two, three, twelve}
 use Rattle.model.specs.declared.Point.{Point}
@@ -132,15 +132,13 @@ abbrev pub process_reply : Command → Proposal → Asdu
 process_reply c p = reply c p.kind (confirmation_cause c.cause) p.negative (objects_of (element_octets p.kind) p.objects)
 
 unfoldable pub process_from : List ℕ → Proposal → Reading → Table → Said
-process_from clock p (Err LengthOutOfRange) t = unsaid (outcome_of (Err LengthOutOfRange)) t clock
-process_from clock p (Err TypeNotServed) t = unsaid (outcome_of (Err TypeNotServed)) t clock
-process_from clock p (Err ObjectsNotWhole) t = unsaid (outcome_of (Err ObjectsNotWhole)) t clock
+process_from clock p (Err unread) t = unsaid (refusal_of unread) t clock
 process_from clock p (Ok c) t =
     pick (process_cause_taken c.cause)
     (pick (proposal_ok (limit_of t) p.kind p.objects)
     (record { outcome = done; answer = process_reply c p ∷ []; told = told_by t (read_updates p); after = table_after t (read_updates p); clock = clock })
-    (unsaid (Err BadProposal) t clock))
-    (unsaid (Err Silent) t clock)
+    (unsaid BadProposal t clock))
+    (unsaid Silent t clock)
 
 -- What a process command says to a table; the clock stays.
 abbrev pub process_said : List ℕ → Proposal → List ℕ → Table → Said

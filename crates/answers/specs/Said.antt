@@ -1,15 +1,16 @@
 -- What a command says to a table, and what that makes of the memories that are lent to the call: the common last step of every command.
 -- Document 01, 'Numbers given back': every number but 0 writes nothing anywhere; with 0, memory past the reported octets stays as it was.
-use Rattle.std.specs.Prelude.{ℕ, ◌≡◌, List, [], ◌++◌, Bool, length, drop, leb, Err}
+use Rattle.std.specs.Prelude.{ℕ, ◌≡◌, List, [], ◌++◌, Bool, length, drop, leb, Err, Result, Ok}
 use Rattle.std.proofs.Math.Option.{Option, none, some}
 use Rattle.limits.specs.Test.{pick}
+use Rattle.limits.specs.declared.outcome.Refusal.{Refusal}
 use Rattle.limits.specs.Outcome.{Outcome, done, is_done}
 use Rattle.limits.specs.declared.outcome.Refusal.TheVariants.{TableNotWellFormed, AnswerShort, SpontaneousShort}
 use Rattle.asdu.specs.Header.{Asdu, wire}
 use Rattle.table.specs.Table.{Table}
 use Rattle.table.specs.Memory.{parse, table_of}
 use Rattle.registry.specs.Effect.{holding, first_fault}
-use Rattle.answers.specs.declared.Answered.{Answered}
+use Rattle.answers.specs.declared.Written.{Written}
 
 -- What a command says: its outcome; the ASDUs of its answer and those told spontaneously; the table and the clock after it. All but the outcome count only with Done.
 pub record Said : Type 0 where
@@ -20,8 +21,8 @@ pub record Said : Type 0 where
   pub clock : List ℕ
 
 -- A refusal or silence.
-abbrev pub unsaid : Outcome → Table → List ℕ → Said
-unsaid o t clock = record { outcome = o; answer = []; told = []; after = t; clock = clock }
+abbrev pub unsaid : Refusal → Table → List ℕ → Said
+unsaid r t clock = record { outcome = Err r; answer = []; told = []; after = t; clock = clock }
 
 -- An answer that changes nothing.
 abbrev pub says : List Asdu → Table → List ℕ → Said
@@ -50,6 +51,17 @@ fronted asdus memory = wire asdus ++ drop (size asdus) memory
 -- Do they fit?
 abbrev pub fits : List Asdu → List ℕ → Bool
 fits asdus memory = leb (size asdus) (length memory)
+
+-- What a command gives back: its outcome, and the octets written to the answer and to the spontaneous memory.
+pub record Answered : Type 0 where
+  pub outcome : Outcome
+  pub octets : ℕ
+  pub spontaneous : ℕ
+
+-- The octets that were written, or a refusal, which wrote none.
+abbrev pub answered : Result Written Refusal → Answered
+answered (Ok w) = record { outcome = done; octets = w.octets; spontaneous = w.spontaneous }
+answered (Err r) = record { outcome = Err r; octets = 0; spontaneous = 0 }
 
 -- The outcome with the memories' lengths known: 5, then 4.
 unfoldable pub outcome_with : Said → Lent → Outcome

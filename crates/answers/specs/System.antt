@@ -1,12 +1,12 @@
 -- What each system command says: interrogation, counters, read, clock, tests, reset process.
 -- Document 01, 'What each command says'; IEC 60870-5-101, 7.4 (functions) and 7.2.6.22, 7.2.6.23 (qualifiers).
-use Rattle.std.specs.Prelude.{ℕ, zero, suc, ◌+◌, ◌-◌, ◌/◌, ◌%◌, List, [], ◌∷◌, ◌++◌, map, Bool, true, false, ◌||◌, not, take, drop, get_or, replicate, leb, eqb, Ok, Err}
+use Rattle.std.specs.Prelude.{ℕ, zero, suc, ◌+◌, ◌-◌, ◌/◌, ◌%◌, List, [], ◌∷◌, ◌++◌, map, Bool, true, false, ◌||◌, not, take, drop, get_or, replicate, leb, eqb, Ok, Err, Some, None}
 use Rattle.std.proofs.Math.Option.{Option, none, some}
 use Rattle.limits.specs.Test.{◌&◌, pick}
 use Rattle.limits.specs.Size.{header_octets, address_octets}
 use Rattle.limits.specs.Outcome.{done}
 use Rattle.limits.specs.declared.outcome.Refusal.TheVariants.{Silent}
-use Rattle.asdu.specs.Command.{Reading, read_as, outcome_of}
+use Rattle.asdu.specs.Command.{Reading, read_as, refusal_of}
 use Rattle.asdu.specs.declared.command.Unread.TheVariants.{LengthOutOfRange, TypeNotServed, ObjectsNotWhole}
 use Rattle.octets.specs.Number.{three}
 use Rattle.model.specs.declared.Point.{Point}
@@ -26,8 +26,7 @@ use Rattle.report.specs.Selection.{selects, interrogation_types_of, counter_type
 use Rattle.report.specs.Report.{report}
 use Rattle.report.specs.Order.{points_for, points_of}
 use Rattle.report.specs.Single.{requested_asdu}
-use Rattle.answers.specs.declared.Choice.{Choice}
-use Rattle.answers.specs.declared.Choice.TheVariants.{Selected, Denied}
+use Rattle.answers.specs.Choice.{Choice}
 use Rattle.answers.specs.Said.{Said, unsaid, says}
 
 -- The types of the system commands.
@@ -82,14 +81,14 @@ reported t c m types cause sel =
 
 -- What a choice is answered by: its report, or one negative confirmation.
 unfoldable pub answer_to : Table → Command → List ℕ → List ℕ → ℕ → Choice → List Asdu
-answer_to t c m types cause Denied = denied c m ∷ []
-answer_to t c m types cause (Selected sel) = reported t c m types cause sel
+answer_to t c m types cause None = denied c m ∷ []
+answer_to t c m types cause (Some sel) = reported t c m types cause sel
 
 -- ---- interrogation
 
 -- Qualifier 20 selects all points, 21 to 36 those of group 1 to 16; any other selects nothing.
 abbrev pub interrogated : ℕ → Choice
-interrogated q = pick (eqb q interrogation) (Selected Every) (pick (leb 21 q & leb q 36) (Selected (Group (q - interrogation))) Denied)
+interrogated q = pick (eqb q interrogation) (Some Every) (pick (leb 21 q & leb q 36) (Some (Group (q - interrogation))) None)
 
 -- Data have the qualifier as cause.
 unfoldable pub interrogation_answer : Command → List ℕ → Table → List Asdu
@@ -103,7 +102,7 @@ choice_of q = q % 64
 
 -- They choose: 5 all, 1 to 4 a group; any other chooses nothing.
 abbrev pub chosen : ℕ → Choice
-chosen q = pick (eqb (choice_of q) 5) (Selected Every) (pick (leb 1 (choice_of q) & leb (choice_of q) 4) (Selected (CounterGroup (choice_of q))) Denied)
+chosen q = pick (eqb (choice_of q) 5) (Some Every) (pick (leb 1 (choice_of q) & leb (choice_of q) 4) (Some (CounterGroup (choice_of q))) None)
 
 -- Bits 6 and 7 act: 0 read, 1 freeze, 2 freeze and reset, 3 reset. Actions 2 and 3 reset.
 abbrev pub resets : ℕ → Bool
@@ -135,8 +134,8 @@ reset_at t ca sel =
 
 -- A choice that is denied resets nothing.
 unfoldable pub reset_by : Table → ℕ → Choice → Table
-reset_by t ca Denied = t
-reset_by t ca (Selected sel) = reset_at t ca sel
+reset_by t ca None = t
+reset_by t ca (Some sel) = reset_at t ca sel
 
 -- Actions 2 and 3 reset the reported counters; 0 and 1 change nothing.
 unfoldable pub after_counters : Table → ℕ → ℕ → Table
@@ -187,10 +186,8 @@ command_said clock m c t =
 
 -- The order of the tests: malformed or not served; silent; then the command's own answer.
 unfoldable pub system_from : List ℕ → List ℕ → Reading → Table → Said
-system_from clock m (Err LengthOutOfRange) t = unsaid (outcome_of (Err LengthOutOfRange)) t clock
-system_from clock m (Err TypeNotServed) t = unsaid (outcome_of (Err TypeNotServed)) t clock
-system_from clock m (Err ObjectsNotWhole) t = unsaid (outcome_of (Err ObjectsNotWhole)) t clock
-system_from clock m (Ok c) t = pick (is_silent c m) (unsaid (Err Silent) t clock) (command_said clock m c t)
+system_from clock m (Err unread) t = unsaid (refusal_of unread) t clock
+system_from clock m (Ok c) t = pick (is_silent c m) (unsaid Silent t clock) (command_said clock m c t)
 
 -- What a system command says to a table.
 abbrev pub system_said : List ℕ → List ℕ → Table → Said

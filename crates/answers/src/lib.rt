@@ -1,47 +1,26 @@
-// What every command says: definitions and their laws, what it gives back, and what a qualifier chooses. The code that says it stands above.
+// What every command says: definitions and their laws, and what it gives back. The code that says it stands above.
 #![tactic(auto)]
 
 ghost use Rattle.std.specs.Prelude.{◌≡◌};
-ghost use Rattle.answers.specs.Said.{nothing, given};
+ghost use Rattle.answers.specs.Said.{answered, given};
 
-use limits::outcome::Outcome;
-use report::Selection;
+use limits::outcome::Refusal;
 
-// What a command gives back: its outcome, and the octets written to the answer and to the spontaneous memory.
-#[derive(Clone, Copy)]
-pub struct Answered {
-    pub outcome: Outcome,
+// How many octets a command wrote to the answer and to the spontaneous memory.
+#[derive(Clone, Copy, Debug, PartialEq, Eq)]
+pub struct Written {
     pub octets: usize,
     pub spontaneous: usize,
 }
 
-// What a qualifier chooses: the points of a selection, or nothing that there is, which is denied.
-#[derive(Clone, Copy)]
-pub enum Choice {
-    Selected(Selection),
-    Denied,
-}
-
-impl Answered {
-    // A number other than 0: nothing is written.
-    pub fn nothing(outcome: Outcome) -> Answered
-        ensures { result ≡ nothing outcome }
-    {
-        Answered {
-            outcome: outcome,
-            octets: 0,
-            spontaneous: 0,
-        }
-    }
-
+impl Written {
     // An answer of so many octets.
-    pub fn given(octets: usize) -> Answered
-        ensures { result ≡ given octets }
+    pub fn given(octets: usize) -> Result<Written, Refusal>
+        ensures { answered result ≡ given octets }
     {
-        Answered {
-            outcome: Outcome::Done,
+        Ok(Written {
             octets: octets,
             spontaneous: 0,
-        }
+        })
     }
 }

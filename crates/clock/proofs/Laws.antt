@@ -20,8 +20,7 @@ use Rattle.table.specs.Memory.{parse}
 use Rattle.table.specs.Settings.{limit_of}
 use Rattle.asdu.specs.declared.command.Command.{Command}
 use Rattle.asdu.specs.declared.command.Entry.TheVariants.{SystemCommands}
-use Rattle.answers.specs.declared.Answered.{Answered}
-use Rattle.answers.specs.Said.{Said, Lent, lent, outcome_with, lent_from, lent_after, Leaves, as_it_is}
+use Rattle.answers.specs.Said.{Answered, Said, Lent, lent, outcome_with, lent_from, lent_after, Leaves, as_it_is}
 use Rattle.answers.specs.System.{clock_from, is_silent, command_said, system_from, system_said}
 use Rattle.answers.proofs.Common.{refused_says_nothing}
 use Rattle.clock.specs.declared.Clock.{Clock}

@@ -4,8 +4,7 @@ use Rattle.std.specs.Prelude.{ℕ, List, [], ◌∷◌, ◌++◌, Bool, false, n
 use denote.Triple.Both.{Both}
 use Rattle.std.specs.Borrow.{MutBor}
 use Rattle.limits.specs.Test.{pick}
-use Rattle.answers.specs.declared.Answered.{Answered}
-use Rattle.answers.specs.Said.{as_it_is, Leaves}
+use Rattle.answers.specs.Said.{Answered, as_it_is, Leaves}
 use Rattle.answers.specs.System.{system_said}
 use Rattle.system_command_handler.specs.Handler.{at_entry, at_exit}
 use Rattle.clock.specs.declared.Clock.{Clock}

@@ -25,8 +25,7 @@ use Rattle.asdu.specs.declared.command.Entry.TheVariants.{ProcessCommands}
 use Rattle.asdu.specs.Header.{Asdu, asdu_octets, wire}
 use Rattle.asdu.specs.Puts.{Puts}
 use Rattle.asdu.proofs.Laws.{wire_one}
-use Rattle.answers.specs.declared.Answered.{Answered}
-use Rattle.answers.specs.Said.{Said, Lent, lent, size, fronted, outcome_with, answered_from, lent_from, Leaves, as_it_is, nothing}
+use Rattle.answers.specs.Said.{Answered, Said, Lent, lent, size, fronted, outcome_with, answered_from, lent_from, Leaves, as_it_is, nothing}
 use Rattle.answers.specs.Process.{Update, Proposal, update_octets, updates_at, updates_in, proposal_ok, process_cause_taken, told_by, process_reply, process_from, process_said}
 use Rattle.answers.proofs.Proposals.{whole_reply, length_confirmed}
 use Rattle.answers.proofs.Ends.{front_is, ends_nothing, ends_refused, ends_alike}

@@ -18,8 +18,8 @@ use Rattle.report.specs.Packing.{Each}
 use Rattle.report.specs.Selection.{interrogation_types, interrogation_types_of, counter_types}
 use Rattle.output.specs.Data.{Slots, TypesOk}
 use Rattle.registry.specs.Effect.{holding}
-use Rattle.answers.specs.declared.Choice.{Choice}
-use Rattle.answers.specs.declared.Choice.TheVariants.{Selected, Denied}
+use Rattle.answers.specs.Choice.{Choice}
+use Rattle.std.specs.Prelude.{Some, None}
 use Rattle.answers.specs.Said.{with_table}
 use Rattle.answers.specs.System.{interrogated, chosen, counter_cause, resets, reset_by, reset_at}
 use Rattle.interrogations.specs.Interrogations.{CauseOf}
@@ -47,33 +47,33 @@ counter_slots = (omega arith, slots_from counter_types refl)
 -- ---- what each qualifier chooses
 
 module _ (q : ℕ) where
-  pub asks_all : q ≡ 20 → interrogated q ≡ Selected Every
+  pub asks_all : q ≡ 20 → interrogated q ≡ Some Every
   asks_all e = simp (eq-eqb _ _ e)
 
-  pub asks_none_below : (q ≡ 20 → ⊥) → q < 21 → interrogated q ≡ Denied
+  pub asks_none_below : (q ≡ 20 → ⊥) → q < 21 → interrogated q ≡ None
   unfolding ◌&◌
   asks_none_below n h = simp (ne_eqb _ _ n, lt-leb 21 q h)
 
-  pub asks_none_above : (q ≡ 20 → ⊥) → 21 ≤ q → 36 < q → interrogated q ≡ Denied
+  pub asks_none_above : (q ≡ 20 → ⊥) → 21 ≤ q → 36 < q → interrogated q ≡ None
   unfolding ◌&◌
   asks_none_above n l h = simp (ne_eqb _ _ n, le-leb 21 q l, lt-leb q 36 h)
 
-  pub asks_group : (q ≡ 20 → ⊥) → 21 ≤ q → q ≤ 36 → interrogated q ≡ Selected (Group (q - 20))
+  pub asks_group : (q ≡ 20 → ⊥) → 21 ≤ q → q ≤ 36 → interrogated q ≡ Some (Group (q - 20))
   unfolding ◌&◌
   asks_group n l h = simp (ne_eqb _ _ n, le-leb 21 q l, le-leb q 36 h)
 
-  pub chooses_all : q % 64 ≡ 5 → chosen q ≡ Selected Every
+  pub chooses_all : q % 64 ≡ 5 → chosen q ≡ Some Every
   chooses_all e = simp (eq-eqb _ _ e)
 
-  pub chooses_none_below : (q % 64 ≡ 5 → ⊥) → q % 64 < 1 → chosen q ≡ Denied
+  pub chooses_none_below : (q % 64 ≡ 5 → ⊥) → q % 64 < 1 → chosen q ≡ None
   unfolding ◌&◌
   chooses_none_below n h = simp (ne_eqb _ _ n, lt-leb 1 (q % 64) h)
 
-  pub chooses_none_above : (q % 64 ≡ 5 → ⊥) → 1 ≤ q % 64 → 4 < q % 64 → chosen q ≡ Denied
+  pub chooses_none_above : (q % 64 ≡ 5 → ⊥) → 1 ≤ q % 64 → 4 < q % 64 → chosen q ≡ None
   unfolding ◌&◌
   chooses_none_above n l h = simp (ne_eqb _ _ n, le-leb 1 (q % 64) l, lt-leb (q % 64) 4 h)
 
-  pub chooses_group : (q % 64 ≡ 5 → ⊥) → 1 ≤ q % 64 → q % 64 ≤ 4 → chosen q ≡ Selected (CounterGroup (q % 64))
+  pub chooses_group : (q % 64 ≡ 5 → ⊥) → 1 ≤ q % 64 → q % 64 ≤ 4 → chosen q ≡ Some (CounterGroup (q % 64))
   unfolding ◌&◌
   chooses_group n l h = simp (ne_eqb _ _ n, le-leb 1 (q % 64) l, le-leb (q % 64) 4 h)
 
@@ -81,7 +81,7 @@ module _ (q : ℕ) where
   pub interrogated_cause : CauseOf (interrogated q) q
   interrogated_cause = by_tests (eqb q 20) refl (leb 21 q & leb q 36) refl
     where
-      by_tests : (a : Bool) → eqb q 20 ≡ a → (b : Bool) → leb 21 q & leb q 36 ≡ b → CauseOf (pick a (Selected Every) (pick b (Selected (Group (q - 20))) Denied)) q
+      by_tests : (a : Bool) → eqb q 20 ≡ a → (b : Bool) → leb 21 q & leb q 36 ≡ b → CauseOf (pick a (Some Every) (pick b (Some (Group (q - 20))) None)) q
       by_tests true e b f = let z : q ≡ 20 = eqb-true _ _ e in omega arith
       by_tests false e true f = let z : q ≤ 36 = leb-true _ _ (both (leb 21 q) _ f).1 in omega arith
       by_tests false e false f = tt
@@ -90,7 +90,7 @@ module _ (q : ℕ) where
   chosen_cause = by_tests (eqb (q % 64) 5) refl (leb 1 (q % 64) & leb (q % 64) 4) refl
     where
       by_tests : (a : Bool) → eqb (q % 64) 5 ≡ a → (b : Bool) → leb 1 (q % 64) & leb (q % 64) 4 ≡ b
-          → CauseOf (pick a (Selected Every) (pick b (Selected (CounterGroup (q % 64))) Denied)) (pick a 37 (37 + q % 64))
+          → CauseOf (pick a (Some Every) (pick b (Some (CounterGroup (q % 64))) None)) (pick a 37 (37 + q % 64))
       by_tests true e b f = omega arith
       by_tests false e true f = let z : q % 64 ≤ 4 = leb-true _ _ (both (leb 1 (q % 64)) _ f).1 in omega arith
       by_tests false e false f = tt
@@ -105,7 +105,7 @@ module _ (m : List ℕ) (o : Octets m) (w : well_formed m ≡ true) (ca q : ℕ)
   pub no_action : q / 64 < 2 → m ≡ with_table (λ t. pick (resets q) (reset_by t ca choice) t) m
   no_action h = unchanged (simp (lt-leb 2 (q / 64) h))
 
-  pub none_chosen : choice ≡ Denied → m ≡ with_table (λ t. pick (resets q) (reset_by t ca choice) t) m
+  pub none_chosen : choice ≡ None → m ≡ with_table (λ t. pick (resets q) (reset_by t ca choice) t) m
   unfolding reset_by
   none_chosen e = unchanged (ap (λ (x : Choice). pick (resets q) (reset_by (table_of m) ca x) (table_of m)) e ∙ either (resets q))
     where
@@ -113,7 +113,7 @@ module _ (m : List ℕ) (o : Octets m) (w : well_formed m ≡ true) (ca q : ℕ)
       either true = refl
       either false = refl
 
-  pub some_chosen : (sel : Selection) → choice ≡ Selected sel → 2 ≤ q / 64
+  pub some_chosen : (sel : Selection) → choice ≡ Some sel → 2 ≤ q / 64
       → holding m (table_of m) (reset_at (table_of m) ca sel) ≡ with_table (λ t. pick (resets q) (reset_by t ca choice) t) m
   unfolding reset_by
   some_chosen sel e h =

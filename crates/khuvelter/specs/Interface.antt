@@ -3,7 +3,7 @@ use Rattle.std.specs.Prelude.{Bool, not, eqb, ℕ, ◌%◌}
 use Rattle.limits.specs.Outcome.{Outcome, number_of}
 use Rattle.registry.specs.Effect as registry
 use Rattle.registry.specs.declared.StationShare.{StationShare}
-use Rattle.answers.specs.declared.Answered.{Answered}
+use Rattle.answers.specs.Said.{Answered}
 use Rattle.khuvelter.specs.declared.Reply.{Reply}
 use Rattle.khuvelter.specs.declared.Share.{Share}
 

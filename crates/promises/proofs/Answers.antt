@@ -22,9 +22,8 @@ use Rattle.registry.specs.Effect.{Reply as TableReply, Effect, first_fault, repl
 use Rattle.registry.specs.Registry.{share_in, share_from}
 use Rattle.registry.specs.Opening.{opens, open_outcome, opened_memory}
 use Rattle.registry.proofs.Effects.{refusal_keeps_memory}
-use Rattle.answers.specs.declared.Answered.{Answered}
+use Rattle.answers.specs.Said.{Answered, Said, Lent, size, fits, outcome_with, answered_from, answered_on, lent_after}
 use Rattle.asdu.specs.Header.{Asdu}
-use Rattle.answers.specs.Said.{Said, Lent, size, fits, outcome_with, answered_from, answered_on, lent_after}
 use Rattle.answers.proofs.Common.{refused_says_nothing, past_the_reported}
 use Rattle.khuvelter.specs.Interface.{narrowed, flat_share}
 use Rattle.khuvelter.specs.declared.Reply.{Reply}

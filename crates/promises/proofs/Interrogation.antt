@@ -30,8 +30,8 @@ use Rattle.report.specs.Selection.{selects, among, interrogation_types, interrog
 use Rattle.report.specs.Report.{report}
 use Rattle.report.proofs.Cases.{interrogation_ascending}
 use Rattle.report.specs.Order.{points_for, points_of}
-use Rattle.answers.specs.declared.Choice.{Choice}
-use Rattle.answers.specs.declared.Choice.TheVariants.{Selected, Denied}
+use Rattle.answers.specs.Choice.{Choice}
+use Rattle.std.specs.Prelude.{Some, None}
 use Rattle.answers.specs.Said.{Said, Lent, lent, size, says, fronted, Leaves, as_it_is, given}
 use Rattle.answers.specs.System.{qualifier_of, confirmed, terminated, interrogated, is_silent, interrogation_answer, answer_to, reported, command_said, system_from, system_said}
 use Rattle.answers.proofs.Ends.{ends_short, ends_done}
@@ -89,7 +89,7 @@ module _ (m : List ℕ) (c : Command) (sel : Selection) (t : Table) (s : Station
       by_test : (b : Bool) → eqb (qualifier_of m) 0 ≡ b → b ≡ false
       by_test false e = refl
       by_test true e =
-          let n : Denied ≡ Selected sel = ap interrogated (sym (eqb-true (qualifier_of m) 0 e)) ∙ a.asked in
+          let n : None ≡ Some sel = ap interrogated (sym (eqb-true (qualifier_of m) 0 e)) ∙ a.asked in
           let z : ◌≡◌ {A = ℕ} 0 1 = cc in absurd (omega arith)
 
   heard : is_silent c m ≡ false

@@ -11,7 +11,7 @@ use lib.ListN.{length, length-append}
 use lib.Dec.{eqb}
 use borrow.Author.Tests.{eqb-false}
 use Rattle.limits.specs.Test.{◌&◌, pick, total}
-use Rattle.std.specs.Prelude.{Ok, Err}
+use Rattle.std.specs.Prelude.{Ok, Err, Some, None}
 use Rattle.limits.specs.Outcome.{Outcome, done, is_done}
 use Rattle.limits.specs.declared.outcome.Refusal.TheVariants.{Silent, BadProposal}
 use Rattle.asdu.specs.Command.{Reading, read_as}
@@ -47,8 +47,7 @@ use Rattle.report.specs.Single.{requested_asdu, end_of_initialization_asdu, stat
 use Rattle.report.proofs.Report.{Whole, length_report}
 use Rattle.report.proofs.Single.{length_single, length_end}
 use Rattle.answers.specs.System.{qualifier_of, confirmed, denied, echoed, terminated, reported, answer_to, interrogation_answer, counter_answer, counter_cause, chosen, interrogated, addresses_in, points_asked, points_read, read_answer, interrogation_type, counters_type, read_type, command_said, cause_taken, is_silent, system_from}
-use Rattle.answers.specs.declared.Choice.{Choice}
-use Rattle.answers.specs.declared.Choice.TheVariants.{Selected, Denied}
+use Rattle.answers.specs.Choice.{Choice}
 use Rattle.answers.specs.Said.{Said, Lent, size, unsaid, outcome_with, answered_from, answered_on}
 use Rattle.answers.specs.Process.{Proposal, proposal_ok, process_cause_taken, process_reply, told_by, table_after, read_updates, process_from}
 use Rattle.faithful.proofs.Theorem.{rising_whole}
@@ -246,11 +245,11 @@ module _ (m : List ℕ) (c : Command) (t : Table) (g : Good t) (w : WellRead (li
 
   pub answer_small : (types : List ℕ) (cause : ℕ) (x : Choice) → length types ≤ 30 → size (answer_to t c m types cause x) ≤ 4000000
   unfolding answer_to
-  answer_small types cause Denied few =
+  answer_small types cause None few =
       let r = reply_small 7 true in
       let d = size_one (denied c m) in
       omega arith
-  answer_small types cause (Selected sel) few = reported_small types cause sel few
+  answer_small types cause (Some sel) few = reported_small types cause sel few
 
   pub interrogation_small : size (interrogation_answer c m t) ≤ 4000000
   unfolding interrogation_answer
@@ -305,10 +304,10 @@ system_small clock m t g (Err ObjectsNotWhole) e = unsaid_small _ t clock
 system_small clock m t g (Ok c) e = by_count (eqb c.count 0) refl
   where
     by_count : (b : Bool) → eqb c.count 0 ≡ b
-        → Small (pick (b || (not (cause_taken c.kind c.cause) || (eqb c.kind interrogation_type & eqb (qualifier_of m) 0))) (unsaid (Err Silent) t clock) (command_said clock m c t))
+        → Small (pick (b || (not (cause_taken c.kind c.cause) || (eqb c.kind interrogation_type & eqb (qualifier_of m) 0))) (unsaid Silent t clock) (command_said clock m c t))
     by_count true n = unsaid_small (Err Silent) t clock
     by_count false n =
-        pick_small (not (cause_taken c.kind c.cause) || (eqb c.kind interrogation_type & eqb (qualifier_of m) 0)) (unsaid (Err Silent) t clock) (command_said clock m c t)
+        pick_small (not (cause_taken c.kind c.cause) || (eqb c.kind interrogation_type & eqb (qualifier_of m) 0)) (unsaid Silent t clock) (command_said clock m c t)
         (unsaid_small (Err Silent) t clock)
         (command_small m c t g (parsed_is (limit_of t) SystemCommands m c e) (ne_zero c.count (eqb-false _ _ n)) clock)
 
@@ -322,7 +321,7 @@ process_small clock p t g (Ok c) =
     pick_small (process_cause_taken c.cause) _ _ (by_proposal (proposal_ok (limit_of t) p.kind p.objects) refl) (unsaid_small (Err Silent) t clock)
   where
     by_proposal : (b : Bool) → proposal_ok (limit_of t) p.kind p.objects ≡ b
-        → Small (pick b (record { outcome = done; answer = process_reply c p ∷ []; told = told_by t (read_updates p); after = table_after t (read_updates p); clock = clock }) (unsaid (Err BadProposal) t clock))
+        → Small (pick b (record { outcome = done; answer = process_reply c p ∷ []; told = told_by t (read_updates p); after = table_after t (read_updates p); clock = clock }) (unsaid BadProposal t clock))
     by_proposal true e =
         let few = most_reply (limit_of t) p.kind p.objects e in
         let most = limit_most t (is_good t g) in

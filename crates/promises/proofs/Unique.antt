@@ -10,8 +10,7 @@ use Rattle.registry.specs.declared.StationShare.{StationShare}
 use Rattle.replies.specs.Replies.{Replies}
 use Rattle.registry.specs.Opening.{open_outcome, opened_memory}
 use Rattle.registry.specs.Registry.{share_on}
-use Rattle.answers.specs.declared.Answered.{Answered}
-use Rattle.answers.specs.Said.{Said, Lent, Leaves, as_it_is}
+use Rattle.answers.specs.Said.{Answered, Said, Lent, Leaves, as_it_is}
 use Rattle.khuvelter.specs.declared.Reply.{Reply as CReply}
 use Rattle.khuvelter.specs.Calls.{Call, Meets}
 

@@ -12,8 +12,7 @@ use Rattle.registry.specs.Effect.{Reply as TableReply, Effect}
 use Rattle.replies.specs.Replies.{Replies}
 use Rattle.registry.specs.Registry.{share_on}
 use Rattle.registry.specs.Opening.{planned, table_octets, open_outcome, opened_memory}
-use Rattle.answers.specs.declared.Answered.{Answered}
-use Rattle.answers.specs.Said.{Said, Lent, Leaves, as_it_is}
+use Rattle.answers.specs.Said.{Answered, Said, Lent, Leaves, as_it_is}
 use Rattle.khuvelter.specs.Interface.{flat_share}
 use Rattle.khuvelter.specs.declared.Reply.{Reply}
 use Rattle.khuvelter.specs.declared.Share.{Share}

@@ -1,7 +1,7 @@
 -- Demand 2: "Answers … are proved against definitions from IEC 60870-5-101 and -104. … An accepted global or group interrogation of one station reports
 -- exactly the selected points, each once, by type then address, in full-as-allowed ASDUs between confirmation and termination."
 -- Every entry's contract is one equation to a definition (khuvelter/specs/Calls, `reply_to` and `left_by`), so each has one right answer.
-use Rattle.std.specs.Prelude.{ℕ, ◌≤◌, ◌<◌, ◌≡◌, List, [], ◌∷◌, ◌++◌, true, false, length, eqb, Ok, Err}
+use Rattle.std.specs.Prelude.{ℕ, ◌≤◌, ◌<◌, ◌≡◌, List, [], ◌∷◌, ◌++◌, true, false, length, eqb, Ok, Err, Some}
 use Rattle.std.proofs.Math.Option.{some}
 use Rattle.limits.specs.Outcome.{Outcome}
 use Rattle.octets.specs.Number.{Octets}
@@ -24,9 +24,7 @@ use Rattle.report.specs.declared.Selection.{Selection}
 use Rattle.report.specs.Packing.{selected, counted}
 use Rattle.report.specs.Selection.{selects, interrogation_types_of}
 use Rattle.report.specs.Report.{ordered, report}
-use Rattle.answers.specs.declared.Answered.{Answered}
-use Rattle.answers.specs.declared.Choice.TheVariants.{Selected}
-use Rattle.answers.specs.Said.{Said, Lent, lent, size, fronted, given, answered_on, Leaves, as_it_is}
+use Rattle.answers.specs.Said.{Answered, Said, Lent, lent, size, fronted, given, answered_on, Leaves, as_it_is}
 use Rattle.answers.specs.System.{interrogation_type, qualifier_of, confirmed, terminated, interrogated, system_said}
 use Rattle.faithful.specs.Faithful.{Faithful}
 use Rattle.khuvelter.specs.Interface.{flat_share}
@@ -47,7 +45,7 @@ pub record Accepted (m : List ℕ) (c : Command) (sel : Selection) (t : Table) (
   -- its cause is 6;
   pub cause : eqb c.cause activation ≡ true
   -- its qualifier is 20, all points, or 21 to 36, a group;
-  pub asked : interrogated (qualifier_of m) ≡ Selected sel
+  pub asked : interrogated (qualifier_of m) ≡ Some sel
   -- its CA is not that of all stations,
   pub one : eqb c.ca global_address ≡ false
   -- but that of s.

@@ -20,8 +20,7 @@ use Rattle.asdu.specs.Command.{object_at}
 use Rattle.asdu.specs.declared.command.Command.{Command}
 use Rattle.asdu.proofs.Lengths.{length_echo}
 use Rattle.report.specs.Single.{requested_asdu}
-use Rattle.answers.specs.declared.Answered.{Answered}
-use Rattle.answers.specs.Said.{size, nothing, given, Sends}
+use Rattle.answers.specs.Said.{Answered, size, nothing, given, Sends}
 use Rattle.answers.specs.System.{echoed, points_read, read_answer}
 use Rattle.answers.proofs.Ends.{sends_nothing, sends_all, sends_along}
 use Rattle.read_data.specs.Reads.{requested_by}

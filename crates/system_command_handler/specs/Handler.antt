@@ -4,8 +4,7 @@ use denote.Triple.Both.{Both}
 use Rattle.std.specs.Borrow.{MutBor}
 use Rattle.limits.specs.Test.{◌&◌}
 use Rattle.asdu.specs.declared.command.Command.{Command}
-use Rattle.answers.specs.declared.Answered.{Answered}
-use Rattle.answers.specs.Said.{Lent, lent}
+use Rattle.answers.specs.Said.{Answered, Lent, lent}
 use Rattle.answers.specs.System.{interrogation_type, cause_taken, qualifier_of}
 use Rattle.system_command_handler.specs.declared.SystemAnswered.{SystemAnswered}
 

@@ -43,5 +43,5 @@ returns c =
     let t = a.table.now in
     let o : Octets t = λ k. omega (arith, c.slice_known-1.given k) in
     let r = c.reach_of-reach.ensures in
-    c.reset.ensures ∙ (λ j. reset_places c.in-Selected.selection t (r j).base (r j).n) ∙ reach_reset t o c.requires a.ca c.in-Selected.selection
-    ∙ some_chosen t o c.requires a.ca a.qualifier a.choice c.in-Selected.selection c.in-Selected.is c.if-qualifier-lt2.false
+    c.reset.ensures ∙ (λ j. reset_places c.in-Some.selection t (r j).base (r j).n) ∙ reach_reset t o c.requires a.ca c.in-Some.selection
+    ∙ some_chosen t o c.requires a.ca a.qualifier a.choice c.in-Some.selection c.in-Some.is c.if-qualifier-lt2.false

@@ -2,7 +2,7 @@
 use mathlib.Core.Path.{sym, ap, ◌∙◌}
 use Prim.Native.Nat.{ℕ}
 use Rattle.report.specs.declared.Selection.TheVariants.{CounterGroup}
-use Rattle.answers.specs.declared.Choice.TheVariants.{Selected}
+use Rattle.std.specs.Prelude.{Some}
 use Rattle.interrogations.proofs.Laws.{chooses_all, chooses_none_below, chooses_none_above, chooses_group}
 use native.Mathlib.Omega.{arith}
 use Rattle.interrogations.proofs.chosen.Goals as goal
@@ -19,4 +19,4 @@ returns-then-choice-gt4 c = let e = c.choice_of-choice.ensures in sym (chooses_n
 pub returns : goal.returns
 returns c =
     let e = c.choice_of-choice.ensures in
-    ap (λ (g : ℕ). Selected (CounterGroup g)) e ∙ sym (chooses_group _ (λ q. c.if-choice-eq5.false (e ∙ q)) (omega arith) (omega arith))
+    ap (λ (g : ℕ). Some (CounterGroup g)) e ∙ sym (chooses_group _ (λ q. c.if-choice-eq5.false (e ∙ q)) (omega arith) (omega arith))

@@ -6,7 +6,7 @@ use Rattle.limits.specs.Outcome.{is_done}
 use Rattle.table.specs.Memory.{table_of}
 use Rattle.report.specs.Selection.{counter_types}
 use Rattle.registry.specs.Effect.{holding}
-use Rattle.answers.specs.declared.Choice.{Choice}
+use Rattle.answers.specs.Choice.{Choice}
 use Rattle.answers.specs.Said.{Sends}
 use Rattle.answers.specs.System.{chosen, counter_cause, resets, reset_by, answer_to, counter_answer, after_counters}
 use Rattle.answers.proofs.Ends.{sends_along}

@@ -2,7 +2,7 @@
 use mathlib.Core.Path.{sym, ap, subst, ◌∙◌}
 use Rattle.table.specs.Memory.{table_of}
 use Rattle.output.specs.Data.{TypesOk}
-use Rattle.answers.specs.declared.Choice.{Choice}
+use Rattle.answers.specs.Choice.{Choice}
 use Rattle.answers.specs.System.{interrogated, answer_to, interrogation_answer}
 use Rattle.answers.proofs.Ends.{sends_along}
 use Rattle.interrogations.specs.Interrogations.{CauseOf}
