@@ -9,14 +9,14 @@ ghost use Rattle.asdu.specs.Command.{is_process};
 ghost use Rattle.asdu.specs.Header.{asdu_octets};
 ghost use Rattle.asdu.specs.Puts.{Puts};
 ghost use Rattle.asdu.specs.declared.command.Reading.TheVariants.{Parsed};
-ghost use Rattle.answers.specs.Said.{Leaves, as_it_is};
+ghost use Rattle.answers.specs.Said.{answered, Leaves, as_it_is};
 ghost use Rattle.answers.specs.Process.{update_octets, proposal_ok, process_cause_taken, confirmation_cause, process_reply, process_from, process_said};
 ghost use Rattle.commands.specs.Entry.{proposal_of, proposed, WholeReply, as_found, as_left};
 
-use answers::Answered;
+use answers::Written;
 use asdu::command::{Command, Entry, Reading};
 use asdu::cot;
-use limits::outcome::Outcome;
+use limits::outcome::Refusal;
 use limits::size::{ADDRESS_OCTETS, CONTROL_OCTETS, Class, HEADER_OCTETS};
 use updates::UPDATE_OCTETS;
 
@@ -96,7 +96,7 @@ fn send_command_confirmation(
     reply: &[u8],
 ) -> usize
     requires { WholeReply kind reply.now × (length reply.now < 256) × (header_octets + length reply.now ≤ length answer.old) }
-    ensures { Puts (asdu_octets (process_reply command (proposal_of negative kind reply.now []))) answer.old result answer.new }
+    ensures { Puts (asdu_octets (process_reply command (proposal_of negative kind reply.now []))) answer.old (answered result) answer.new }
 {
     let element = limits::size::element_octets(kind);
     let count = (reply.len() / (ADDRESS_OCTETS + element)) as u8;
@@ -116,23 +116,23 @@ fn handle_process_command(
     updates: &[u8],
     answer: &mut [u8],
     spontaneous: &mut [u8],
-) -> Answered
+) -> Result<Written, Refusal>
     requires { well_formed table.old ≡ true }
     ensures { Leaves as_it_is (process_from [] (proposed negative reply_type reply updates) (Parsed command)) (as_found table answer spontaneous) result (as_left table answer spontaneous) }
 {
     if !is_command_cot(command.cause) {
-        return Answered::nothing(Outcome::Silent);
+        return Err(Refusal::Silent);
     }
     if !is_proposal(settings::limit_of(table), reply_type, reply) {
-        return Answered::nothing(Outcome::BadProposal);
+        return Err(Refusal::BadProposal);
     }
     let n = updates_read(negative, updates);
     let told = updates::told_octets(table, updates, n);
     if spontaneous.len() < told {
-        return Answered::nothing(Outcome::SpontaneousShort);
+        return Err(Refusal::SpontaneousShort);
     }
     if answer.len() < HEADER_OCTETS + reply.len() {
-        return Answered::nothing(Outcome::AnswerShort);
+        return Err(Refusal::AnswerShort);
     }
     updates::apply_model_updates(table, updates, n, spontaneous);
     let octets = send_command_confirmation(answer, command, negative, reply_type, reply);
@@ -153,11 +153,11 @@ pub fn process_command(
     updates: &[u8],
     answer: &mut [u8],
     spontaneous: &mut [u8],
-) -> Answered
+) -> Result<Written, Refusal>
     ensures { Leaves as_it_is (process_said [] (proposed negative reply_type reply updates) asdu.now) (as_found table answer spontaneous) result (as_left table answer spontaneous) }
 {
     if !wellformed::well_formed(table) {
-        return Answered::nothing(Outcome::TableNotWellFormed);
+        return Err(Refusal::TableNotWellFormed);
     }
     let limit = settings::limit_of(table);
     let reading = asdu::command::parse(asdu, Entry::ProcessCommands, limit);

@@ -8,27 +8,27 @@ ghost use Rattle.table.specs.Memory.{well_formed, table_of};
 ghost use Rattle.asdu.specs.Header.{asdu_octets};
 ghost use Rattle.asdu.specs.Command.{first_element, object_at};
 ghost use Rattle.output.specs.Data.{TypesOk};
-ghost use Rattle.answers.specs.Said.{Sends};
+ghost use Rattle.answers.specs.Said.{answered, Sends};
 ghost use Rattle.answers.specs.System.{denied, terminated, echoed, reported};
 ghost use Rattle.confirming.specs.Sending.{HasFirst};
 
-use answers::Answered;
+use answers::Written;
 use asdu::command::Command;
 use asdu::{confirmation, cot};
-use limits::outcome::Outcome;
+use limits::outcome::Refusal;
 use limits::size::{ADDRESS_OCTETS, HEADER_OCTETS};
 use output::data::Written;
 use report::{Selection, Terms};
 
 // One negative confirmation with the first object alone.
-pub fn deny(answer: &mut [u8], command: Command, asdu: &[u8]) -> Answered
+pub fn deny(answer: &mut [u8], command: Command, asdu: &[u8]) -> Result<Written, Refusal>
     requires { HasFirst command asdu.now }
-    ensures { Sends (denied command asdu.now ∷ []) answer.old result answer.new }
+    ensures { Sends (denied command asdu.now ∷ []) answer.old (answered result) answer.new }
 {
     if answer.len() < HEADER_OCTETS + ADDRESS_OCTETS + command.element {
-        return Answered::nothing(Outcome::AnswerShort);
+        return Err(Refusal::AnswerShort);
     }
-    Answered::given(confirmation::put_confirmation(
+    Written::given(confirmation::put_confirmation(
         answer,
         command,
         asdu,
@@ -38,14 +38,14 @@ pub fn deny(answer: &mut [u8], command: Command, asdu: &[u8]) -> Answered
 }
 
 // The confirmation that echoes all objects.
-pub fn echo(answer: &mut [u8], command: Command, asdu: &[u8], negative: bool) -> Answered
+pub fn echo(answer: &mut [u8], command: Command, asdu: &[u8], negative: bool) -> Result<Written, Refusal>
     requires { length asdu.now ≡ object_at command.element command.count }
-    ensures { Sends (echoed command asdu.now negative ∷ []) answer.old result answer.new }
+    ensures { Sends (echoed command asdu.now negative ∷ []) answer.old (answered result) answer.new }
 {
     if answer.len() < asdu.len() {
-        return Answered::nothing(Outcome::AnswerShort);
+        return Err(Refusal::AnswerShort);
     }
-    Answered::given(confirmation::put_echo(
+    Written::given(confirmation::put_echo(
         answer,
         command,
         asdu,
@@ -77,9 +77,9 @@ pub fn report(
     selection: Selection,
     command: Command,
     asdu: &[u8],
-) -> Answered
+) -> Result<Written, Refusal>
     requires { (well_formed table.now ≡ true) × TypesOk types.now × (cause < 64) × HasFirst command asdu.now }
-    ensures { Sends (reported (table_of table.now) command asdu.now types.now cause selection) answer.old result answer.new }
+    ensures { Sends (reported (table_of table.now) command asdu.now types.now cause selection) answer.old (answered result) answer.new }
 {
     let limit = settings::limit_of(table);
     let reach = output::reach::reach_of(table, command.ca);
@@ -92,9 +92,9 @@ pub fn report(
     let Written::Octets(octets) = output::data::put_data(
         answer, before, before, table, reach, selection, types, terms,
     ) else {
-        return Answered::nothing(Outcome::AnswerShort);
+        return Err(Refusal::AnswerShort);
     };
     confirmation::put_confirmation(answer, command, asdu, cot::ACTIVATION_CONFIRMATION, false);
     put_termination(answer, before + octets, command, asdu);
-    Answered::given(before + (octets + before))
+    Written::given(before + (octets + before))
 }

@@ -6,16 +6,16 @@ ghost use Rattle.asdu.specs.Header.{asdu_octets};
 ghost use Rattle.asdu.specs.Puts.{Puts};
 ghost use Rattle.layout.specs.Layout.{station_size};
 ghost use Rattle.report.specs.Single.{end_of_initialization_asdu};
-ghost use Rattle.answers.specs.Said.{Leaves, as_it_is, lent};
+ghost use Rattle.answers.specs.Said.{answered, Leaves, as_it_is, lent};
 ghost use Rattle.answers.specs.Start.{start_said};
 ghost use Rattle.connection_start.specs.Starting.{common_address_at};
 
-use answers::Answered;
+use answers::Written;
 use asdu::cot::INITIATED;
 use asdu::header::Header;
 use asdu::types_id::M_EI_NA_1;
 use layout::STATION_SIZE;
-use limits::outcome::Outcome;
+use limits::outcome::Refusal;
 use limits::size::{ADDRESS_OCTETS, HEADER_OCTETS};
 
 // The object of the end of initialisation: its address and one octet.
@@ -61,16 +61,16 @@ fn end_of_initialization_asdu(out: &mut [u8], ca: usize) -> usize
 }
 
 // The start of a connection: 3, then 4, else the end of initialisation, of the smallest common address with a point, or of 0.
-pub fn connection_started(table: &[u8], answer: &mut [u8]) -> Answered
-    ensures { Leaves as_it_is (start_said []) (lent table.now [] answer.old []) result (lent table.now [] answer.new []) }
+pub fn connection_started(table: &[u8], answer: &mut [u8]) -> Result<Written, Refusal>
+    ensures { Leaves as_it_is (start_said []) (lent table.now [] answer.old []) (answered result) (lent table.now [] answer.new []) }
 {
     if !wellformed::well_formed(table) {
-        return Answered::nothing(Outcome::TableNotWellFormed);
+        return Err(Refusal::TableNotWellFormed);
     }
     if answer.len() < END_OF_INITIALIZATION_OCTETS {
-        return Answered::nothing(Outcome::AnswerShort);
+        return Err(Refusal::AnswerShort);
     }
     let first = layout::station_at(table, 0);
     let ca = station_common_address(table, first, layout::stations_of(table));
-    Answered::given(end_of_initialization_asdu(answer, ca))
+    Written::given(end_of_initialization_asdu(answer, ca))
 }

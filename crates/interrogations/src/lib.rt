@@ -2,18 +2,18 @@
 // of `actor.rs`, `handle_counter_interrogation` of `system_command_handler.rs`, `interrogation_data_cot` and `counter_interrogation_data_cot` of `output.rs`.
 #![tactic(auto)]
 
-ghost use Rattle.std.specs.Prelude.{◌≡◌, true, ◌<◌, length};
+ghost use Rattle.std.specs.Prelude.{◌≡◌, true, ◌<◌, length, is_ok};
 ghost use Rattle.limits.specs.Test.{pick};
-ghost use Rattle.limits.specs.Outcome.{is_done};
 ghost use Rattle.table.specs.Memory.{well_formed, table_of};
 ghost use Rattle.asdu.specs.Command.{first_element};
 ghost use Rattle.output.specs.Data.{TypesOk};
-ghost use Rattle.answers.specs.Said.{Sends, with_table};
+ghost use Rattle.answers.specs.Said.{answered, Sends, with_table};
 ghost use Rattle.answers.specs.System.{qualifier_of, interrogated, choice_of, chosen, counter_cause, resets, reset_by, answer_to, interrogation_answer, counter_answer, after_counters};
 ghost use Rattle.confirming.specs.Sending.{HasFirst};
 ghost use Rattle.interrogations.specs.Interrogations.{CauseOf, HasQualifier};
 
-use answers::{Answered, Choice};
+use answers::Written;
+use limits::outcome::Refusal;
 use asdu::command::Command;
 use asdu::cot;
 use limits::size::{ADDRESS_OCTETS, HEADER_OCTETS};
@@ -32,19 +32,19 @@ pub fn qualifier_of(asdu: &[u8]) -> u8
 
 // An interrogation's: 20 selects all points, 21 to 36 those of group 1 to 16.
 #[tactic(auto, using(crate::proofs::Laws::asks_all, crate::proofs::Laws::asks_none_below, crate::proofs::Laws::asks_none_above, crate::proofs::Laws::asks_group))]
-fn interrogated(qualifier: u8) -> Choice
+fn interrogated(qualifier: u8) -> Option<Selection>
     ensures { result ≡ interrogated qualifier }
 {
     if qualifier == cot::INTERROGATION_GENERAL {
-        return Choice::Selected(Selection::Every);
+        return Some(Selection::Every);
     }
     if qualifier < 21 {
-        return Choice::Denied;
+        return None;
     }
     if 36 < qualifier {
-        return Choice::Denied;
+        return None;
     }
-    Choice::Selected(Selection::Group(qualifier - cot::INTERROGATION_GENERAL))
+    Some(Selection::Group(qualifier - cot::INTERROGATION_GENERAL))
 }
 
 // Bits 0 to 5 of a counter interrogation's qualifier.
@@ -55,20 +55,20 @@ fn choice_of(qualifier: u8) -> u8
 }
 
 // They choose: 5 all counters, 1 to 4 a group.
-fn chosen(qualifier: u8) -> Choice
+fn chosen(qualifier: u8) -> Option<Selection>
     ensures { result ≡ chosen qualifier }
 {
     let choice = choice_of(qualifier);
     if choice == 5 {
-        return Choice::Selected(Selection::Every);
+        return Some(Selection::Every);
     }
     if choice < 1 {
-        return Choice::Denied;
+        return None;
     }
     if 4 < choice {
-        return Choice::Denied;
+        return None;
     }
-    Choice::Selected(Selection::CounterGroup(choice))
+    Some(Selection::CounterGroup(choice))
 }
 
 // The cause of its data: 37 for all, 37 + group for a group.
@@ -90,14 +90,14 @@ fn answer_to(
     table: &[u8],
     types: &[u8],
     cause: u8,
-    choice: Choice,
+    choice: Option<Selection>,
     command: Command,
     asdu: &[u8],
-) -> Answered
+) -> Result<Written, Refusal>
     requires { (well_formed table.now ≡ true) × TypesOk types.now × CauseOf choice cause × HasFirst command asdu.now }
-    ensures { Sends (answer_to (table_of table.now) command asdu.now types.now cause choice) answer.old result answer.new }
+    ensures { Sends (answer_to (table_of table.now) command asdu.now types.now cause choice) answer.old (answered result) answer.new }
 {
-    let Choice::Selected(selection) = choice else {
+    let Some(selection) = choice else {
         return confirming::deny(answer, command, asdu);
     };
     confirming::report(answer, table, types, cause, selection, command, asdu)
@@ -109,9 +109,9 @@ pub fn handle_interrogation(
     table: &[u8],
     command: Command,
     asdu: &[u8],
-) -> Answered
+) -> Result<Written, Refusal>
     requires { (well_formed table.now ≡ true) × HasQualifier command asdu.now }
-    ensures { Sends (interrogation_answer command asdu.now (table_of table.now)) answer.old result answer.new }
+    ensures { Sends (interrogation_answer command asdu.now (table_of table.now)) answer.old (answered result) answer.new }
 {
     let types = settings::interrogation_types_of(table);
     let qualifier = qualifier_of(asdu);
@@ -129,14 +129,14 @@ pub fn handle_interrogation(
 // ---- counters
 
 // Actions 2 and 3 of a counter interrogation set what was reported to 0; 0 and 1, and a choice that was denied, change nothing.
-fn apply_counter_freeze_qualifier(table: &mut [u8], ca: u16, choice: Choice, qualifier: u8)
+fn apply_counter_freeze_qualifier(table: &mut [u8], ca: u16, choice: Option<Selection>, qualifier: u8)
     requires { well_formed table.old ≡ true }
     ensures { table.new ≡ with_table (λ t. pick (resets qualifier) (reset_by t ca choice) t) table.old }
 {
     if qualifier / 64 < 2 {
         return;
     }
-    let Choice::Selected(selection) = choice else {
+    let Some(selection) = choice else {
         return;
     };
     let reach = output::reach::reach_of(table, ca);
@@ -149,20 +149,16 @@ pub fn handle_counter_interrogation(
     answer: &mut [u8],
     command: Command,
     asdu: &[u8],
-) -> Answered
+) -> Result<Written, Refusal>
     requires { (well_formed table.old ≡ true) × HasQualifier command asdu.now }
-    ensures sends { Sends (counter_answer command asdu.now (table_of table.old)) answer.old result answer.new }
-    ensures table_after { table.new ≡ pick (is_done result.outcome) (with_table (λ t. after_counters t command.ca (qualifier_of asdu.now)) table.old) table.old }
+    ensures sends { Sends (counter_answer command asdu.now (table_of table.old)) answer.old (answered result) answer.new }
+    ensures table_after { table.new ≡ pick (is_ok result) (with_table (λ t. after_counters t command.ca (qualifier_of asdu.now)) table.old) table.old }
 {
     let types = [M_IT_NA_1, M_IT_TB_1];
     let qualifier = qualifier_of(asdu);
     let choice = chosen(qualifier);
     let cause = counter_interrogation_data_cot(qualifier);
-    let answered = answer_to(answer, table, &types, cause, choice, command, asdu);
-    let outcome = answered.outcome;
-    if !outcome.is_done() {
-        return answered;
-    }
+    let written = answer_to(answer, table, &types, cause, choice, command, asdu)?;
     apply_counter_freeze_qualifier(table, command.ca, choice, qualifier);
-    answered
+    Ok(written)
 }

@@ -10,7 +10,7 @@ ghost use Rattle.registry.specs.Opening.{planned, valid_plan, table_octets, open
 ghost use Rattle.opening.specs.Head.{head_start};
 
 use layout::{HEAD_SIZE, MARK, MOST_PLACES, MOST_STATIONS, PLACE_SIZE, SPARE_OFFSET, STATION_SIZE};
-use limits::outcome::Outcome;
+use limits::outcome::Refusal;
 
 // ---- a plan as it is lent: CA, reservation and ceiling of each station in turn
 
@@ -189,14 +189,14 @@ fn put_fresh(table: &mut [u8], k: usize, plan: &[u16], n: usize)
 
 // ---- the entry
 
-// Opens a table of capacity K under a plan in the lent memory: InvalidPlan (10) and nothing written, or Done and the fresh table.
-pub fn open(table: &mut [u8], capacity: u32, plan: &[u16]) -> Outcome
+// Opens a table of capacity K under a plan in the lent memory: InvalidPlan (10) and nothing written, or the fresh table.
+pub fn open(table: &mut [u8], capacity: u32, plan: &[u16]) -> Result<(), Refusal>
     ensures { (result ≡ open_outcome capacity plan.now table.old) × (table.new ≡ opened_memory capacity plan.now table.old) }
 {
     let k = capacity as usize;
     if !may_open(plan, k, table.len()) {
-        return Outcome::InvalidPlan;
+        return Err(Refusal::InvalidPlan);
     }
     put_fresh(table, k, plan, plan.len() / 3);
-    Outcome::Done
+    Ok(())
 }

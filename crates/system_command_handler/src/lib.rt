@@ -11,15 +11,15 @@ ghost use Rattle.table.specs.Settings.{limit_of};
 ghost use Rattle.asdu.specs.Command.{read_as, object_at, first_element};
 ghost use Rattle.asdu.specs.declared.command.Entry.TheVariants.{SystemCommands};
 ghost use Rattle.asdu.specs.declared.command.Reading.TheVariants.{Parsed};
-ghost use Rattle.answers.specs.Said.{as_it_is, Leaves, Sends};
+ghost use Rattle.answers.specs.Said.{answered, as_it_is, Leaves, Sends};
 ghost use Rattle.answers.specs.System.{echoed, points_read, read_answer, clock_from, cause_taken, command_said, system_said};
 ghost use Rattle.system_command_handler.specs.Handler.{at_entry, at_exit, is_skipped, with_clock};
 
-use answers::Answered;
+use answers::Written;
 use asdu::command::{Command, Entry, FirstObject, Reading};
 use asdu::types_id::{C_CI_NA_1, C_CS_NA_1, C_IC_NA_1, C_RD_NA_1};
 use asdu::{confirmation, cot};
-use limits::outcome::Outcome;
+use limits::outcome::Refusal;
 use limits::size::{ADDRESS_OCTETS, HEADER_OCTETS};
 use lookup::Seat;
 use read_data::Asked;
@@ -34,9 +34,9 @@ pub struct SystemAnswered {
 // ---- read
 
 // The echo of all objects, negative where an address is missing; else one ASDU for each object, in the command's order.
-fn handle_read(answer: &mut [u8], table: &[u8], command: Command, asdu: &[u8]) -> Answered
+fn handle_read(answer: &mut [u8], table: &[u8], command: Command, asdu: &[u8]) -> Result<Written, Refusal>
     requires { (well_formed table.now ≡ true) × (0 < command.count) × (command.count ≤ count_limit) × (command.element ≡ 0) × (length asdu.now ≡ object_at 0 command.count) }
-    ensures { Sends (read_answer command asdu.now (points_read command asdu.now (table_of table.now))) answer.old result answer.new }
+    ensures { Sends (read_answer command asdu.now (points_read command asdu.now (table_of table.now))) answer.old (answered result) answer.new }
 {
     let Seat::Here(_, first, h) = lookup::seat_at(table, command.ca as usize) else {
         return confirming::echo(answer, command, asdu, true);
@@ -46,13 +46,13 @@ fn handle_read(answer: &mut [u8], table: &[u8], command: Command, asdu: &[u8]) -
     };
     let before = asdu.len();
     if answer.len() < before {
-        return Answered::nothing(Outcome::AnswerShort);
+        return Err(Refusal::AnswerShort);
     }
     if answer.len() - before < octets {
-        return Answered::nothing(Outcome::AnswerShort);
+        return Err(Refusal::AnswerShort);
     }
     confirmation::put_echo(answer, command, asdu, cot::ACTIVATION_CONFIRMATION, false);
-    Answered::given(read_data::put_requested(answer, before, table, first, h, command, asdu))
+    Written::given(read_data::put_requested(answer, before, table, first, h, command, asdu))
 }
 
 // ---- the clock
@@ -178,10 +178,10 @@ fn handle_ingress_asdu(
     ensures { Leaves as_it_is (system_said clock asdu.now) (at_entry table clock answer) result.answered (at_exit table result.clock answer) }
 {
     let FirstObject::Object(_, _) = asdu::command::first_object(command, asdu) else {
-        return with_clock(Answered::nothing(Outcome::Silent), clock);
+        return with_clock(Err(Refusal::Silent), clock);
     };
     if is_skipped(command, asdu) {
-        return with_clock(Answered::nothing(Outcome::Silent), clock);
+        return with_clock(Err(Refusal::Silent), clock);
     }
     dispatch_rtu_system_handler(table, clock, asdu, answer, command)
 }
@@ -196,7 +196,7 @@ pub fn system_command(
     ensures { Leaves as_it_is (system_said clock asdu.now) (at_entry table clock answer) result.answered (at_exit table result.clock answer) }
 {
     if !wellformed::well_formed(table) {
-        return with_clock(Answered::nothing(Outcome::TableNotWellFormed), clock);
+        return with_clock(Err(Refusal::TableNotWellFormed), clock);
     }
     let limit = settings::limit_of(table);
     let reading = asdu::command::parse(asdu, Entry::SystemCommands, limit);
