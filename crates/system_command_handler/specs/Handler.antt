@@ -4,23 +4,18 @@ use denote.Triple.Both.{Both}
 use Rattle.std.specs.Borrow.{MutBor}
 use Rattle.limits.specs.Test.{◌&◌}
 use Rattle.asdu.specs.declared.command.Command.{Command}
-use Rattle.answers.specs.Said.{Answered, Lent, lent}
+use Rattle.answers.specs.Said.{Lent, lent}
 use Rattle.answers.specs.System.{interrogation_type, cause_taken, qualifier_of}
-use Rattle.system_command_handler.specs.declared.SystemAnswered.{SystemAnswered}
 
--- Table and answer memory as a call finds them, with the clock that it is handed; it has no spontaneous memory.
+-- Table and answer memory as a call finds them, with the last master clock; it has no spontaneous memory.
 abbrev pub at_entry : Both (MutBor (List ℕ)) (MutBor (List ℕ)) → List ℕ → Both (MutBor (List ℕ)) (MutBor (List ℕ)) → Lent
 at_entry table clock answer = lent table.entry.now clock answer.entry.now []
 
--- And as it leaves them, with the clock that it gives back.
+-- And as it leaves them, with the clock after it.
 abbrev pub at_exit : Both (MutBor (List ℕ)) (MutBor (List ℕ)) → List ℕ → Both (MutBor (List ℕ)) (MutBor (List ℕ)) → Lent
 at_exit table clock answer = lent table.exit.now clock answer.exit.now []
 
 -- ---- as the code reads
-
--- an answer with the clock that goes back
-abbrev pub with_clock : Answered → List ℕ → SystemAnswered
-with_clock r clock = record { answered = r; clock = clock }
 
 -- a command with a first object that is answered by number 1
 abbrev pub is_skipped : Command → List ℕ → Bool

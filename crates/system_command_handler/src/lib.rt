@@ -2,34 +2,24 @@
 // `handle_ingress_asdu` of `actor.rs`. It tests everything itself: any octets may be lent as the table, the command and the answer memory.
 #![tactic(auto)]
 
-ghost use Rattle.std.specs.Prelude.{◌≡◌, true, false, [], ◌∷◌, ◌+◌, ◌≤◌, ◌<◌, length};
+ghost use Rattle.std.specs.Prelude.{◌≡◌, true, false, [], ◌∷◌, ◌+◌, ◌≤◌, ◌<◌, length, is_ok, Ok};
 ghost use Rattle.limits.specs.Test.{pick};
 ghost use Rattle.limits.specs.Size.{count_limit};
-ghost use Rattle.limits.specs.Outcome.{is_done};
 ghost use Rattle.table.specs.Memory.{well_formed, table_of};
 ghost use Rattle.table.specs.Settings.{limit_of};
 ghost use Rattle.asdu.specs.Command.{read_as, object_at, first_element};
 ghost use Rattle.asdu.specs.declared.command.Entry.TheVariants.{SystemCommands};
-ghost use Rattle.asdu.specs.declared.command.Reading.TheVariants.{Parsed};
 ghost use Rattle.answers.specs.Said.{answered, as_it_is, Leaves, Sends};
 ghost use Rattle.answers.specs.System.{echoed, points_read, read_answer, clock_from, cause_taken, command_said, system_said};
-ghost use Rattle.system_command_handler.specs.Handler.{at_entry, at_exit, is_skipped, with_clock};
+ghost use Rattle.system_command_handler.specs.Handler.{at_entry, at_exit, is_skipped};
 
 use answers::Written;
-use asdu::command::{Command, Entry, FirstObject, Reading};
+use asdu::command::{Command, Entry};
 use asdu::types_id::{C_CI_NA_1, C_CS_NA_1, C_IC_NA_1, C_RD_NA_1};
 use asdu::{confirmation, cot};
 use limits::outcome::Refusal;
 use limits::size::{ADDRESS_OCTETS, HEADER_OCTETS};
 use lookup::Seat;
-use read_data::Asked;
-
-// What the entry gives back: the number and octets, and the last master clock, seven octets and the known flag.
-#[derive(Clone, Copy)]
-pub struct SystemAnswered {
-    pub answered: Answered,
-    pub clock: [u8; 8],
-}
 
 // ---- read
 
@@ -41,7 +31,7 @@ fn handle_read(answer: &mut [u8], table: &[u8], command: Command, asdu: &[u8]) -
     let Seat::Here(_, first, h) = lookup::seat_at(table, command.ca as usize) else {
         return confirming::echo(answer, command, asdu, true);
     };
-    let Asked::Known(octets) = read_data::read_octets(table, first, h, command, asdu) else {
+    let Some(octets) = read_data::read_octets(table, first, h, command, asdu) else {
         return confirming::echo(answer, command, asdu, true);
     };
     let before = asdu.len();
@@ -75,33 +65,20 @@ fn clock_of(asdu: &[u8]) -> [u8; 8]
     ]
 }
 
-// An answer with the clock that goes back.
-fn with_clock(answered: Answered, clock: [u8; 8]) -> SystemAnswered
-    ensures { result ≡ with_clock answered clock }
-{
-    SystemAnswered {
-        answered: answered,
-        clock: clock,
-    }
-}
-
 // The echo of all objects; the clock is stored if the echo was given.
 fn handle_clock_sync(
     answer: &mut [u8],
-    clock: [u8; 8],
+    clock: &mut [u8; 8],
     command: Command,
     asdu: &[u8],
-) -> SystemAnswered
+) -> Result<Written, Refusal>
     requires { (length asdu.now ≡ object_at command.element command.count) × (first_element + 7 ≤ length asdu.now) }
-    ensures sends { Sends (echoed command asdu.now false ∷ []) answer.old result.answered answer.new }
-    ensures clock_value { result.clock ≡ pick (is_done result.answered.outcome) (clock_from asdu.now) clock }
+    ensures sends { Sends (echoed command asdu.now false ∷ []) answer.old (answered result) answer.new }
+    ensures clock_value { clock.new ≡ pick (is_ok result) (clock_from asdu.now) clock.old }
 {
-    let answered = confirming::echo(answer, command, asdu, false);
-    let outcome = answered.outcome;
-    if !outcome.is_done() {
-        return with_clock(answered, clock);
-    }
-    with_clock(answered, clock_of(asdu))
+    let written = confirming::echo(answer, command, asdu, false)?;
+    *clock = clock_of(asdu);
+    Ok(written)
 }
 
 // ---- which commands are taken
@@ -140,68 +117,64 @@ fn is_skipped(command: Command, asdu: &[u8]) -> bool
 // What a command that is taken says, by its type: `handle_test` and `handle_reset_process` are the echo of all objects.
 fn dispatch_rtu_system_handler(
     table: &mut [u8],
-    clock: [u8; 8],
+    clock: &mut [u8; 8],
     asdu: &[u8],
     answer: &mut [u8],
     command: Command,
-) -> SystemAnswered
-    requires { (well_formed table.old ≡ true) × (read_as (limit_of (table_of table.old)) SystemCommands asdu.now ≡ Parsed command) × (0 < command.count) }
-    ensures { Leaves as_it_is (command_said clock asdu.now command) (at_entry table clock answer) result.answered (at_exit table result.clock answer) }
+) -> Result<Written, Refusal>
+    requires { (well_formed table.old ≡ true) × (read_as (limit_of (table_of table.old)) SystemCommands asdu.now ≡ Ok command) × (0 < command.count) }
+    ensures { Leaves as_it_is (command_said clock.old asdu.now command) (at_entry table clock.old answer) (answered result) (at_exit table clock.new answer) }
 {
     let kind = command.kind;
     if kind == C_IC_NA_1 {
-        let answered = interrogations::handle_interrogation(answer, table, command, asdu);
-        return with_clock(answered, clock);
+        return interrogations::handle_interrogation(answer, table, command, asdu);
     }
     if kind == C_CI_NA_1 {
-        let answered = interrogations::handle_counter_interrogation(table, answer, command, asdu);
-        return with_clock(answered, clock);
+        return interrogations::handle_counter_interrogation(table, answer, command, asdu);
     }
     if kind == C_RD_NA_1 {
-        return with_clock(handle_read(answer, table, command, asdu), clock);
+        return handle_read(answer, table, command, asdu);
     }
     if kind == C_CS_NA_1 {
         return handle_clock_sync(answer, clock, command, asdu);
     }
-    with_clock(confirming::echo(answer, command, asdu, false), clock)
+    confirming::echo(answer, command, asdu, false)
 }
 
 // A command that was read: silent without a first object, silent if it is passed over, else its answer.
 fn handle_ingress_asdu(
     table: &mut [u8],
-    clock: [u8; 8],
+    clock: &mut [u8; 8],
     asdu: &[u8],
     answer: &mut [u8],
     command: Command,
-) -> SystemAnswered
-    requires { (well_formed table.old ≡ true) × (read_as (limit_of (table_of table.old)) SystemCommands asdu.now ≡ Parsed command) }
-    ensures { Leaves as_it_is (system_said clock asdu.now) (at_entry table clock answer) result.answered (at_exit table result.clock answer) }
+) -> Result<Written, Refusal>
+    requires { (well_formed table.old ≡ true) × (read_as (limit_of (table_of table.old)) SystemCommands asdu.now ≡ Ok command) }
+    ensures { Leaves as_it_is (system_said clock.old asdu.now) (at_entry table clock.old answer) (answered result) (at_exit table clock.new answer) }
 {
-    let FirstObject::Object(_, _) = asdu::command::first_object(command, asdu) else {
-        return with_clock(Err(Refusal::Silent), clock);
-    };
+    if asdu::command::first_object(command, asdu).is_none() {
+        return Err(Refusal::Silent);
+    }
     if is_skipped(command, asdu) {
-        return with_clock(Err(Refusal::Silent), clock);
+        return Err(Refusal::Silent);
     }
     dispatch_rtu_system_handler(table, clock, asdu, answer, command)
 }
 
-// The entry for system commands: 3; then 2, 1 and 2 of the reading; then the silent rules; then the answer, or 4.
+// The entry for system commands: 3; then 2, 1 and 2 of the reading; then the silent rules; then the answer, or 4. `clock` is the last master clock,
+// seven octets of time and the known flag.
 pub fn system_command(
     table: &mut [u8],
-    clock: [u8; 8],
+    clock: &mut [u8; 8],
     asdu: &[u8],
     answer: &mut [u8],
-) -> SystemAnswered
-    ensures { Leaves as_it_is (system_said clock asdu.now) (at_entry table clock answer) result.answered (at_exit table result.clock answer) }
+) -> Result<Written, Refusal>
+    ensures { Leaves as_it_is (system_said clock.old asdu.now) (at_entry table clock.old answer) (answered result) (at_exit table clock.new answer) }
 {
     if !wellformed::well_formed(table) {
-        return with_clock(Err(Refusal::TableNotWellFormed), clock);
+        return Err(Refusal::TableNotWellFormed);
     }
     let limit = settings::limit_of(table);
-    let reading = asdu::command::parse(asdu, Entry::SystemCommands, limit);
-    let Reading::Parsed(command) = reading else {
-        return with_clock(Answered::nothing(reading.outcome()), clock);
-    };
+    let command = asdu::command::parse(asdu, Entry::SystemCommands, limit)?;
     handle_ingress_asdu(table, clock, asdu, answer, command)
 }
