@@ -10,7 +10,7 @@ pub returns-then-answer-command : goal.returns-then-answer-command
 returns-then-answer-command c =
     let a = c.args in
     let l = length_confirmation a.command a.asdu.now 7 true c.requires.1 in
-    rw c.nothing.ensures (one_nothing (denied a.command a.asdu.now) a.answer.now (omega arith))
+    (one_nothing (denied a.command a.asdu.now) a.answer.now (omega arith))
 
 pub put_confirmation-requires : goal.put_confirmation-requires
 put_confirmation-requires c =

@@ -9,7 +9,7 @@ pub returns-then-answer-asdu : goal.returns-then-answer-asdu
 returns-then-answer-asdu c =
     let a = c.args in
     let l = length_echo a.command a.asdu.now 7 a.negative c.requires in
-    rw c.nothing.ensures (one_nothing (echo a.command a.asdu.now 7 a.negative) a.answer.now (omega arith))
+    (one_nothing (echo a.command a.asdu.now 7 a.negative) a.answer.now (omega arith))
 
 pub put_echo-requires : goal.put_echo-requires
 put_echo-requires c =

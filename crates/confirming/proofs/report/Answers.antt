@@ -77,7 +77,6 @@ pub returns-in_default : goal.returns-in_default
 returns-in_default c =
     let d = same_data (goal.at.returns-in_default c).After-put_data in
     let a = c.args in
-    rw c.nothing.ensures
     (no_room (table_of a.table.now) a.command a.asdu.now a.types.now a.cause a.selection a.answer.now c.requires.3.1 (sym d.0 ∙ c.in_default.is) _ d.1)
 
 pub put_confirmation-requires : goal.put_confirmation-requires

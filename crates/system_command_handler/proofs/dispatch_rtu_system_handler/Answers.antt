@@ -29,7 +29,7 @@ returns-then-kind-eq-C_IC_NA_1 c =
     let a = c.args in
     let o : Octets a.table.now = λ i. omega (arith, c.slice_known-1.given i) in
     let S = said_interrogation a.clock a.asdu.now a.command (table_of a.table.now) c.if-kind-eq-C_IC_NA_1.true in
-    rw c.with_clock.ensures (ends_says (command_said c.args.clock c.args.asdu.now c.args.command) (lent c.args.table.now c.args.clock c.args.answer.now []) c.requires.0 o _ a.clock S _ _ _ c.handle_interrogation-answered.ensures (same_clock (is_done c.handle_interrogation-answered.result.outcome) a.clock))
+    (ends_says (command_said c.args.clock c.args.asdu.now c.args.command) (lent c.args.table.now c.args.clock c.args.answer.now []) c.requires.0 o _ a.clock S _ _ _ c.handle_interrogation-answered.ensures (same_clock (is_done c.handle_interrogation-answered.result.outcome) a.clock))
 
 pub handle_counter_interrogation-answered-requires : goal.handle_counter_interrogation-answered-requires
 handle_counter_interrogation-answered-requires c =
@@ -46,7 +46,6 @@ returns-then-kind-eq-C_CI_NA_1 c =
     let e = c.handle_counter_interrogation-answered.ensures in
     let b = is_done c.handle_counter_interrogation-answered.result.outcome in
     let t = a.table.now in
-    rw c.with_clock-then-kind-eq-C_CI_NA_1.ensures
     (ends_sent (command_said c.args.clock c.args.asdu.now c.args.command) (lent c.args.table.now c.args.clock c.args.answer.now []) c.requires.0 _ (ap (λ (s : Said). s.outcome) S) (ap (λ (s : Said). s.told) S) (ap (λ (s : Said). s.answer) S) _ _ _ _ e.sends
     (e.table_after ∙ ap (λ (u : Table). pick b (holding t (table_of t) u) t) (sym (ap (λ (s : Said). s.after) S)))
     (same_clock b a.clock ∙ ap (λ (k : List ℕ). pick b k a.clock) (sym (ap (λ (s : Said). s.clock) S))))
@@ -62,7 +61,7 @@ returns-then-kind-eq-C_RD_NA_1 c =
     let a = c.args in
     let o : Octets a.table.now = λ i. omega (arith, c.slice_known-1.given i) in
     let S = said_read a.clock a.asdu.now a.command (table_of a.table.now) c.if-kind-eq-C_IC_NA_1.false c.if-kind-eq-C_CI_NA_1.false c.if-kind-eq-C_RD_NA_1.true in
-    rw c.with_clock-then-kind-eq-C_RD_NA_1.ensures (ends_says (command_said c.args.clock c.args.asdu.now c.args.command) (lent c.args.table.now c.args.clock c.args.answer.now []) c.requires.0 o _ a.clock S _ _ _ c.handle_read.ensures (same_clock (is_done c.handle_read.result.outcome) a.clock))
+    (ends_says (command_said c.args.clock c.args.asdu.now c.args.command) (lent c.args.table.now c.args.clock c.args.answer.now []) c.requires.0 o _ a.clock S _ _ _ c.handle_read.ensures (same_clock (is_done c.handle_read.result.outcome) a.clock))
 
 pub handle_clock_sync-requires : goal.handle_clock_sync-requires
 handle_clock_sync-requires c =
@@ -87,4 +86,4 @@ returns c =
     let a = c.args in
     let o : Octets a.table.now = λ i. omega (arith, c.slice_known-1.given i) in
     let S = said_echo a.clock a.asdu.now a.command (table_of a.table.now) c.if-kind-eq-C_IC_NA_1.false c.if-kind-eq-C_CI_NA_1.false c.if-kind-eq-C_RD_NA_1.false c.if-kind-eq-C_CS_NA_1.false in
-    rw c.with_clock-2.ensures (ends_says (command_said c.args.clock c.args.asdu.now c.args.command) (lent c.args.table.now c.args.clock c.args.answer.now []) c.requires.0 o _ a.clock S _ _ _ c.echo.ensures (same_clock (is_done c.echo.result.outcome) a.clock))
+    (ends_says (command_said c.args.clock c.args.asdu.now c.args.command) (lent c.args.table.now c.args.clock c.args.answer.now []) c.requires.0 o _ a.clock S _ _ _ c.echo.ensures (same_clock (is_done c.echo.result.outcome) a.clock))

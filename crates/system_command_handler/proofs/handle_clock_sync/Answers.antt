@@ -7,9 +7,9 @@ use Rattle.system_command_handler.proofs.handle_clock_sync.Goals as goal
 pub returns-then-not-is_done : goal.returns-then-not-is_done
 returns-then-not-is_done c =
     let d : is_done c.echo-answered.result.outcome ≡ false = sym c.is_done.ensures ∙ c.if-not-is_done.true in
-    rw c.with_clock.ensures (record { sends = c.echo-answered.ensures; clock_value = sym (simp d) })
+    (record { sends = c.echo-answered.ensures; clock_value = sym (simp d) })
 
 pub returns : goal.returns
 returns c =
     let d : is_done c.echo-answered.result.outcome ≡ true = sym c.is_done.ensures ∙ c.if-not-is_done.false in
-    rw c.with_clock-2.ensures (record { sends = c.echo-answered.ensures; clock_value = c.clock_of.ensures ∙ sym (simp d) })
+    (record { sends = c.echo-answered.ensures; clock_value = c.clock_of.ensures ∙ sym (simp d) })

@@ -28,7 +28,6 @@ pub returns-in_default : goal.returns-in_default
 returns-in_default c =
     let a = c.args in
     let n = no_first a.command a.asdu.now (sym c.first_object.ensures ∙ c.in_default.is) in
-    rw (c.with_clock.ensures, c.nothing.ensures)
     (ends_refused (system_said c.args.clock c.args.asdu.now) (lent c.args.table.now c.args.clock c.args.answer.now []) c.requires.0 (Err Silent) (silent_in (goal.at.returns-in_default c).Start (silent_none a.command a.asdu.now n)) refl)
 
 pub returns-then-is_skipped : goal.returns-then-is_skipped
@@ -36,7 +35,7 @@ returns-then-is_skipped c =
     let a = c.args in
     let n = (first_is a.command a.asdu.now _ _ (sym c.first_object.ensures ∙ c.in-Object.is)).some in
     let s : is_silent a.command a.asdu.now ≡ true = silent_some a.command a.asdu.now n ∙ sym c.is_skipped.ensures ∙ c.if-is_skipped.true in
-    rw (c.with_clock-then-is_skipped.ensures, c.nothing-then-is_skipped.ensures) (ends_refused (system_said c.args.clock c.args.asdu.now) (lent c.args.table.now c.args.clock c.args.answer.now []) c.requires.0 (Err Silent) (silent_in (goal.at.returns-then-is_skipped c).Start s) refl)
+    (ends_refused (system_said c.args.clock c.args.asdu.now) (lent c.args.table.now c.args.clock c.args.answer.now []) c.requires.0 (Err Silent) (silent_in (goal.at.returns-then-is_skipped c).Start s) refl)
 
 pub dispatch_rtu_system_handler-requires : goal.dispatch_rtu_system_handler-requires
 dispatch_rtu_system_handler-requires c =

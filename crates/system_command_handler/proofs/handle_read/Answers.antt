@@ -71,13 +71,11 @@ returns-in_default-read_octets c =
 pub returns-then-answer-before : goal.returns-then-answer-before
 returns-then-answer-before c =
     let a = c.args in
-    rw c.nothing.ensures
     (read_short a.table.now _ _ a.command a.asdu.now a.answer.now _ (all_known (goal.at.returns-then-answer-before c).In-Known) (whole_in (goal.at.returns-then-answer-before c).Start) (omega arith))
 
 pub returns-then-answer-before-2 : goal.returns-then-answer-before-2
 returns-then-answer-before-2 c =
     let a = c.args in
-    rw c.nothing-then-answer-before-2.ensures
     (read_short a.table.now _ _ a.command a.asdu.now a.answer.now _ (all_known (goal.at.returns-then-answer-before-2 c).In-Known) (whole_in (goal.at.returns-then-answer-before-2 c).Start) (omega arith))
 
 pub put_echo-requires : goal.put_echo-requires

@@ -26,7 +26,7 @@ is_read c =
 pub returns-then-not-well_formed : goal.returns-then-not-well_formed
 returns-then-not-well_formed c =
     let w : well_formed c.args.table.now ≡ false = sym c.well_formed-2.ensures ∙ c.if-not-well_formed.true in
-    rw (c.with_clock.ensures, c.nothing.ensures) (ends_no_table (system_said c.args.clock c.args.asdu.now) (lent c.args.table.now c.args.clock c.args.answer.now []) w)
+    (ends_no_table (system_said c.args.clock c.args.asdu.now) (lent c.args.table.now c.args.clock c.args.answer.now []) w)
 
 pub limit_of-limit-requires : goal.limit_of-limit-requires
 limit_of-limit-requires c = there (goal.at.limit_of-limit-requires c).Else-not-well_formed
@@ -36,7 +36,7 @@ returns-in_default c =
     let a = c.args in
     let t = table_of a.table.now in
     let z = unread_says a.clock a.asdu.now t _ c.in_default.not-Parsed (is_read (goal.at.returns-in_default c).After-parse-reading) in
-    rw (c.with_clock-in_default.ensures, c.nothing-in_default.ensures, c.outcome.ensures) (ends_refused (system_said c.args.clock c.args.asdu.now) (lent c.args.table.now c.args.clock c.args.answer.now []) (there (goal.at.returns-in_default c).Else-not-well_formed) _ z.0 z.1)
+    (ends_refused (system_said c.args.clock c.args.asdu.now) (lent c.args.table.now c.args.clock c.args.answer.now []) (there (goal.at.returns-in_default c).Else-not-well_formed) _ z.0 z.1)
 
 pub handle_ingress_asdu-requires : goal.handle_ingress_asdu-requires
 handle_ingress_asdu-requires c =
