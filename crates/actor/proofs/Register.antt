@@ -7,6 +7,8 @@ use mathlib.Core.Option.{none, some}
 use Prim.Native.Nat.{ℕ, ◌+◌, ◌*◌, ◌≤◌, ◌<◌}
 use native.Mathlib.Omega.{arith}
 use Rattle.limits.specs.Test.{total}
+use Rattle.limits.specs.declared.outcome.Refusal.{Refusal}
+use Rattle.limits.specs.declared.outcome.Refusal.TheVariants.{AlreadyRegistered}
 use Rattle.limits.specs.Outcome.{Outcome, done, is_done}
 use Rattle.limits.proofs.Outcomes.{not_both, done_is, first_done}
 use Rattle.octets.specs.Number.{Octets}
@@ -27,29 +29,17 @@ use Rattle.insert.proofs.Laws.{insert_parsed, insert_bounds}
 use Rattle.insert.proofs.Entry.{admitted_room}
 use Rattle.registry.specs.Effect.{first_fault}
 use Rattle.registry.specs.Registry.{is_planned, is_registered, room_fault, registered_fault, request_outcome, registering}
-use Rattle.registry.proofs.Requests.{admitted_is}
 use Rattle.replies.specs.Replies.{Replies, placeless}
 use Rattle.replies.proofs.Ways.{refused_by, done_by}
-use Rattle.actor.specs.Actor.{room_at, spot_fault, seat_fault, offset_of}
+use Rattle.actor.specs.Actor.{room_at}
 use Rattle.actor.proofs.Rooms.{room_law}
 
 -- ---- registration
 
--- the two ways of a request's own tests
-pub own_refused : (q : Request) (spot : Result ℕ ℕ) → is_done (own_fault true q) ≡ false → seat_fault q spot ≡ own_fault true q
-unfolding seat_fault
-own_refused q spot d = simp d
-
-pub own_passed : (q : Request) (spot : Result ℕ ℕ) → is_done (own_fault true q) ≡ true → seat_fault q spot ≡ spot_fault spot
-unfolding seat_fault
-own_passed q spot d = simp d
-
-first_first : (a b c : Outcome) → first_fault a (first_fault b c) ≡ first_fault (first_fault a b) c
-first_first a b c = by_test (is_done a) refl
-  where
-    by_test : (x : Bool) → is_done a ≡ x → first_fault a (first_fault b c) ≡ first_fault (first_fault a b) c
-    by_test true e = simp e
-    by_test false e = simp e
+-- 17 where a point stands at the address
+abbrev spot_fault : Result ℕ ℕ → Outcome
+spot_fault (Ok at) = Err AlreadyRegistered
+spot_fault (Err at) = done
 
 not_done : (o : Outcome) → Unplanned o → is_done o ≡ false
 not_done o (unknown e) = ap is_done e
@@ -83,67 +73,63 @@ module _ (m : List ℕ) (o : Octets m) (w : well_formed m ≡ true) (q : Request
             simp k
 
     -- the outcome, as the code puts it together
-    outcome_law : request_outcome (table_of m) q (station_of q.ca (table_of m).stations) ≡ first_fault (seat_fault q (find_at m first h q.ioa)) (room_at m i)
-    unfolding request_outcome is_planned seat_fault
+    outcome_law : request_outcome (table_of m) q (station_of q.ca (table_of m).stations)
+        ≡ first_fault (own_fault true q) (first_fault (spot_fault (find_at m first h q.ioa)) (room_at m i))
+    unfolding request_outcome is_planned
     outcome_law =
         let z = seat_law m q.ca i first h o w e in
         let s : station_of q.ca (table_of m).stations ≡ some z.seat.s = z.seat.is_station in
         let r : room_at m i ≡ room_fault (table_of m) (some z.seat.s) = room_law m o w q.ca i first h e ∙ ap (room_fault (table_of m)) s in
-        ap (request_outcome (table_of m) q) s
-        ∙ (λ j. first_fault (own_fault true q) (first_fault (sym spot_law j) (sym r j)))
-        ∙ first_first (own_fault true q) (spot_fault (find_at m first h q.ioa)) (room_at m i)
+        ap (request_outcome (table_of m) q) s ∙ (λ j. first_fault (own_fault true q) (first_fault (sym spot_law j) (sym r j)))
 
-    -- Refused by its own tests: 11, 13 to 15, 17.
-    pub register_own : is_done (seat_fault q (find_at m first h q.ioa)) ≡ false → Replies (registering q) m (placeless (seat_fault q (find_at m first h q.ioa))) m
+    -- Refused by its own tests: 11, 13 to 15.
+    pub register_own : (r : Refusal) → own_fault true q ≡ Err r → Replies (registering q) m (placeless (Err r)) m
     unfolding registering
-    register_own d = refused_by (registering q) m w _ (outcome_law ∙ simp d) refl d
+    register_own r d = refused_by (registering q) m w (Err r) (outcome_law ∙ simp d) refl refl
 
-    -- Refused for room: 19, 20.
-    pub register_room : is_done (seat_fault q (find_at m first h q.ioa)) ≡ true → is_done (room_at m i) ≡ false → Replies (registering q) m (placeless (room_at m i)) m
-    unfolding registering
-    register_room d r = refused_by (registering q) m w _ (outcome_law ∙ simp d) refl r
+    module _ (own : own_fault true q ≡ done) (at : ℕ) where
+      -- Its address has a point: 17.
+      pub register_known : find_at m first h q.ioa ≡ Ok at → Replies (registering q) m (placeless (Err AlreadyRegistered)) m
+      unfolding registering
+      register_known p = refused_by (registering q) m w (Err AlreadyRegistered) (outcome_law ∙ simp (own, p)) refl refl
 
-    -- whoever has room finds a free place
-    room_place : room_at m i ≡ done → total held (table_of m).stations < (table_of m).capacity
-    unfolding room_fault
-    room_place r =
-        let z = seat_law m q.ca i first h o w e in
-        admitted_room (table_of m) q.ca z.seat.s (holds m o w).0 z.seat.found
-        (admitted_is _ (ap (room_fault (table_of m)) (sym z.seat.is_station) ∙ sym (room_law m o w q.ca i first h e) ∙ r))
+      module _ (p : find_at m first h q.ioa ≡ Err at) where
+        -- Refused for room: 19, 20.
+        pub register_room : (r : Refusal) → room_at m i ≡ Err r → Replies (registering q) m (placeless (Err r)) m
+        unfolding registering
+        register_room r x = refused_by (registering q) m w (Err r) (outcome_law ∙ simp (own, p, x)) refl refl
 
-    -- where the point goes
-    goes : is_done (seat_fault q (find_at m first h q.ioa)) ≡ true
-        → Standing (table_of m).stations q.ca (point_of q).ioa (seat_law m q.ca i first h o w e).seat.s (seat_law m q.ca i first h o w e).seat.found i h
-        (offset_of (find_at m first h q.ioa))
-    unfolding seat_fault
-    goes d = by_spot (find_at m first h q.ioa) refl (first_done (own_fault true q) (spot_fault (find_at m first h q.ioa)) (done_is (seat_fault q (find_at m first h q.ioa)) d)).1
-      where
-        by_spot : (x : Result ℕ ℕ) → find_at m first h q.ioa ≡ x → spot_fault x ≡ done
-            → Standing (table_of m).stations q.ca (point_of q).ioa (seat_law m q.ca i first h o w e).seat.s (seat_law m q.ca i first h o w e).seat.found i h (offset_of x)
-        by_spot (Ok at) p f = not_both (ap is_done f)
-        by_spot (Err at) p f =
-            let z = seat_law m q.ca i first h o w e in
-            let k = (missing_law m first h q.ioa at (rw z.points z.rises) p).place in
-            standing (table_of m).stations q.ca (point_of q).ioa i first h at z.seat
-            (k ∙ ap₂ (λ (l : _) (x : ℕ). first + 48 * seek_in x l) z.points (sym (point_address q)))
+        module _ (x : room_at m i ≡ done) where
+          -- whoever has room finds a free place
+          room_place : total held (table_of m).stations < (table_of m).capacity
+          unfolding room_fault
+          room_place =
+              let z = seat_law m q.ca i first h o w e in
+              admitted_room (table_of m) q.ca z.seat.s (holds m o w).0 z.seat.found
+              (ap (room_fault (table_of m)) (sym z.seat.is_station) ∙ sym (room_law m o w q.ca i first h e) ∙ x)
 
-    -- What `insert` asks of the numbers.
-    pub register_bounds : is_done (seat_fault q (find_at m first h q.ioa)) ≡ true → is_done (room_at m i) ≡ true
-        → ((point_of q).ioa < 16777216) × HasRoom m i h (offset_of (find_at m first h q.ioa))
-    unfolding seat_fault
-    register_bounds d r =
-        let z = seat_law m q.ca i first h o w e in
-        let gl = holds m o w in
-        let b = insert_bounds (table_of m) m q.ca (point_of q).ioa z.seat.s z.seat.found i h _ gl.0 gl.1 (room_place (done_is _ r)) (goes d) in
-        let a : q.ioa ≤ 16777215 = (faultless true q (first_done (own_fault true q) (spot_fault (find_at m first h q.ioa)) (done_is (seat_fault q (find_at m first h q.ioa)) d)).0).address in
-        let p = point_address q in
-        (omega arith, b)
+          -- where the point goes
+          goes : Standing (table_of m).stations q.ca (point_of q).ioa (seat_law m q.ca i first h o w e).seat.s (seat_law m q.ca i first h o w e).seat.found i h at
+          goes =
+              let z = seat_law m q.ca i first h o w e in
+              let k = (missing_law m first h q.ioa at (rw z.points z.rises) p).place in
+              standing (table_of m).stations q.ca (point_of q).ioa i first h at z.seat
+              (k ∙ ap₂ (λ (l : _) (y : ℕ). first + 48 * seek_in y l) z.points (sym (point_address q)))
 
-    -- Done: the point is in its place.
-    pub register_done : is_done (seat_fault q (find_at m first h q.ioa)) ≡ true → is_done (room_at m i) ≡ true
-        → Replies (registering q) m (placeless done) (placed m q.ca (point_of q) i h (offset_of (find_at m first h q.ioa)))
-    unfolding registering
-    register_done d r =
-        let z = seat_law m q.ca i first h o w e in
-        done_by (registering q) m w 0 _ (outcome_law ∙ simp d (done_is _ r)) refl
-        (insert_parsed m (table_of m) q.ca (point_of q) z.seat.s z.seat.found i h _ o (parse_some m w) (room_place (done_is _ r)) (goes d))
+          -- What `insert` asks of the numbers.
+          pub register_bounds : ((point_of q).ioa < 16777216) × HasRoom m i h at
+          register_bounds =
+              let z = seat_law m q.ca i first h o w e in
+              let gl = holds m o w in
+              let b = insert_bounds (table_of m) m q.ca (point_of q).ioa z.seat.s z.seat.found i h at gl.0 gl.1 room_place goes in
+              let a : q.ioa ≤ 16777215 = (faultless true q own).address in
+              let k = point_address q in
+              (omega arith, b)
+
+          -- Done: the point is in its place.
+          pub register_done : Replies (registering q) m (placeless done) (placed m q.ca (point_of q) i h at)
+          unfolding registering
+          register_done =
+              let z = seat_law m q.ca i first h o w e in
+              done_by (registering q) m w 0 _ (outcome_law ∙ simp (own, p, x)) refl
+              (insert_parsed m (table_of m) q.ca (point_of q) z.seat.s z.seat.found i h at o (parse_some m w) room_place goes)

@@ -47,4 +47,4 @@ module _ (m : List ℕ) (o : Octets m) (w : well_formed m ≡ true) (ca i first 
       let ss : List Station = (table_of m).stations in
       let f : free_in m ≡ free_of (table_of m).capacity (map share_of ss) = free_is ∙ ap (λ (n : ℕ). (table_of m).capacity - n) (sym (total_held ss)) in
       let u : unmet_in m ≡ total unmet_of (map share_of ss) = unmet_is ∙ sym (total_unmet ss) in
-      (λ j. admission_outcome (admission_of (station_share j) (f j) (u j))) ∙ ap (room_fault (table_of m)) (sym z.seat.is_station)
+      (λ j. admission_of (station_share j) (f j) (u j)) ∙ ap (room_fault (table_of m)) (sym z.seat.is_station)

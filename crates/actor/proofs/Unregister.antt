@@ -4,7 +4,6 @@ use mathlib.Core.Path.{◌≡◌, refl, sym, ap, ◌∙◌}
 use mathlib.Core.List.{List}
 use mathlib.Core.Bool.{true, false}
 use Prim.Native.Nat.{ℕ}
-use Rattle.std.specs.Prelude.{Err}
 use Rattle.limits.specs.Outcome.{done}
 use Rattle.limits.specs.declared.outcome.Refusal.TheVariants.{TableNotWellFormed, StationNotPlanned, NotRegistered}
 use Rattle.octets.specs.Number.{Octets}
@@ -19,8 +18,8 @@ use Rattle.lookup.proofs.Halving.{missing_law}
 use Rattle.remove.specs.Remove.{taken_out, all_taken_out}
 use Rattle.remove.proofs.Entry.{take_out_law, take_all_out_law}
 use Rattle.registry.specs.Effect.{Effect, refused}
-use Rattle.registry.specs.Registry.{is_registered, unregistering, unregistering_all, no_share, share_in, share_from, share_on}
-use Rattle.replies.specs.Replies.{Replies, placeless}
+use Rattle.registry.specs.Registry.{is_registered, unregistering, unregistering_all, share_in, share_from, share_on}
+use Rattle.replies.specs.Replies.{Replies, placeless, numbered}
 use Rattle.replies.proofs.Ways.{refused_by, done_by}
 use Rattle.actor.specs.Actor.{station_share_at}
 use Rattle.actor.proofs.Rooms.{station_share, free_is, unmet_is}
@@ -58,7 +57,7 @@ module _ (m : List ℕ) (w : well_formed m ≡ true) (ca ioa : ℕ) where
         done_by (unregistering ca ioa) m w 0 _ (simp k) (simp k) (z.memory ∙ sym (simp k))
 
 -- Done: all points are gone, and their number is given back.
-pub all_done : (m : List ℕ) → Octets m → well_formed m ≡ true → Replies unregistering_all m (record { outcome = done; place = points_in m }) (all_taken_out m)
+pub all_done : (m : List ℕ) → Octets m → well_formed m ≡ true → Replies unregistering_all m (numbered (Ok (points_in m))) (all_taken_out m)
 unfolding unregistering_all
 all_done m o w =
     let z = take_all_out_law m o w in
@@ -66,21 +65,21 @@ all_done m o w =
 
 -- ---- a station's share
 
-pub share_no_table : (m : List ℕ) (ca : ℕ) → well_formed m ≡ false → no_share (Err TableNotWellFormed) ≡ share_on ca m
+pub share_no_table : (m : List ℕ) (ca : ℕ) → well_formed m ≡ false → Err TableNotWellFormed ≡ share_on ca m
 unfolding share_from
 share_no_table m ca w = sym (ap (share_from ca) (parse_none m w))
 
 module _ (m : List ℕ) (w : well_formed m ≡ true) (ca : ℕ) where
-  pub share_absent : seat_at m ca ≡ None → no_share (Err StationNotPlanned) ≡ share_on ca m
+  pub share_absent : seat_at m ca ≡ None → Err StationNotPlanned ≡ share_on ca m
   unfolding share_from share_in
   share_absent e = sym (ap (share_from ca) (parse_some m w) ∙ ap (share_in (table_of m)) (absent_law m ca e))
 
-  pub share_found : (o : Octets m) (i first h : ℕ) → seat_at m ca ≡ here i first h → station_share_at m i ≡ share_on ca m
+  pub share_found : (o : Octets m) (i first h : ℕ) → seat_at m ca ≡ here i first h → Ok (station_share_at m i) ≡ share_on ca m
   unfolding station_share_at share_from share_in
   share_found o i first h e =
       let z = seat_law m ca i first h o w e in
       let s = station_share m o w ca i first h e in
       let f = free_is m o w ca i first h e in
       let u = unmet_is m o w ca i first h e in
-      (λ j. record { outcome = done; reservation = (s j).reservation; ceiling = (s j).ceiling; held = (s j).held; free = f j; unmet = u j })
+      (λ j. Ok record { reservation = (s j).reservation; ceiling = (s j).ceiling; held = (s j).held; free = f j; unmet = u j })
       ∙ sym (ap (share_from ca) (parse_some m w) ∙ ap (share_in (table_of m)) z.seat.is_station)

@@ -1,17 +1,11 @@
 -- ---- as the code reads: nobody need believe what follows, the laws in proofs/ tie it to the effects of `registry`
-use Rattle.std.specs.Prelude.{ℕ, ◌+◌, ◌*◌, ◌-◌, ◌≤◌, ◌<◌, List, true, length, Err, Ok, Result}
+use Rattle.std.specs.Prelude.{ℕ, ◌+◌, ◌*◌, ◌-◌, ◌≤◌, ◌<◌, List, true, length}
 use Rattle.limits.specs.Share.{admission_of}
 use Rattle.limits.specs.declared.share.Share.{Share}
-use Rattle.std.specs.Prelude.{Err}
-use Rattle.limits.specs.Outcome.{Outcome, done}
-use Rattle.limits.specs.declared.outcome.Refusal.TheVariants.{AlreadyRegistered}
+use Rattle.limits.specs.Outcome.{Outcome}
 use Rattle.layout.specs.Layout.{station_size, most_stations, capacity_in, stations_in, points_in, stations_from, size_in}
-use Rattle.model.specs.declared.Request.{Request}
-use Rattle.model.specs.Request.{own_fault}
 use Rattle.table.specs.Memory.{sum_at, unmet_at}
 use Rattle.wellformed.specs.Station.{share_at}
-use Rattle.registry.specs.Registry.{admission_outcome}
-use Rattle.registry.specs.Effect.{first_fault}
 use Rattle.registry.specs.declared.StationShare.{StationShare}
 
 -- a memory long enough for its head's numbers, with a station of index i
@@ -31,27 +25,12 @@ unmet_in m = sum_at unmet_at m (stations_from m) (stations_in m)
 
 -- the share rule's answer to one more point of the station of index i
 unfoldable pub room_at : List ℕ → ℕ → Outcome
-room_at m i = admission_outcome (admission_of (share_here m i) (free_in m) (unmet_in m))
-
--- 17 where a point stands at the address
-abbrev pub spot_fault : Result ℕ ℕ → Outcome
-spot_fault (Ok at) = (Err AlreadyRegistered)
-spot_fault (Err at) = done
-
--- where a point stands or would go
-abbrev pub offset_of : Result ℕ ℕ → ℕ
-offset_of (Ok at) = at
-offset_of (Err at) = at
-
--- the tests of a request whose station is planned, but for room
-unfoldable pub seat_fault : Request → Result ℕ ℕ → Outcome
-seat_fault q spot = first_fault (own_fault true q) (spot_fault spot)
+room_at m i = admission_of (share_here m i) (free_in m) (unmet_in m)
 
 -- the share of the station of index i
 unfoldable pub station_share_at : List ℕ → ℕ → StationShare
 station_share_at m i =
     record {
-      outcome = done;
       reservation = (share_here m i).reservation;
       ceiling = (share_here m i).ceiling;
       held = (share_here m i).held;

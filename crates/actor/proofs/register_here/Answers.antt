@@ -1,105 +1,82 @@
 -- Each way out is one law of registration. Assumes nothing.
-use Rattle.std.specs.Prelude.{Some}
+use mathlib.Core.Bool.{true}
 use mathlib.Core.Path.{◌≡◌, sym, ap, ◌∙◌}
-use mathlib.Core.Bool.{true, false}
-use Rattle.limits.specs.Outcome.{is_done}
-use Rattle.model.specs.declared.Point.{Point}
+use Prim.Native.Nat.{ℕ, ◌<◌}
+use Rattle.std.proofs.lemmas.Result.{err_from_is_err_and}
+use Rattle.std.specs.Prelude.{Ok, Err}
+use Rattle.limits.specs.Outcome.{done}
 use Rattle.octets.specs.Number.{Octets}
-use Rattle.table.specs.Memory.{well_formed}
+use Rattle.model.specs.declared.Point.{Point}
+use Rattle.model.specs.Request.{own_fault}
 use Rattle.table.proofs.Parse.{passed}
-use Rattle.lookup.specs.Seats.{seat_at}
 use Rattle.lookup.specs.Find.{find_at}
 use Rattle.lookup.proofs.Laws.{seat_law}
-use Rattle.actor.specs.Actor.{seat_fault, offset_of, room_at}
 use Rattle.insert.specs.Insert.{placed}
-use Rattle.actor.proofs.Register.{register_own, register_room, register_done, register_bounds}
+use Rattle.actor.specs.Actor.{room_at}
+use Rattle.actor.proofs.Register.{register_own, register_known, register_room, register_done, register_bounds}
 use native.Mathlib.Omega.{arith}
 use Rattle.actor.proofs.register_here.Goals as goal
+use Rattle.actor.proofs.register_here.Goals.{In_ok-own_fault, In-Err, In_ok-room_at}
 
-pub find-spot-requires : goal.find-spot-requires
-find-spot-requires c =
+-- its own tests are passed
+own_in : (c : In_ok-own_fault) → own_fault true c.args.q ≡ done
+own_in c = sym c.own_fault.ensures ∙ c.in_ok-own_fault.was
+
+-- its address has no point
+free_in : (c : In-Err) → find_at c.args.table.now c.args.seat.first c.args.seat.held c.args.q.ioa ≡ Err c.in-Err.at
+free_in c = sym c.find.ensures ∙ c.in-Err.is
+
+-- it has room
+room_in : (c : In_ok-room_at) → room_at c.args.table.now c.args.seat.index ≡ done
+room_in c = sym c.room_at.ensures ∙ c.in_ok-room_at.was
+
+pub returns-in_err-own_fault : goal.returns-in_err-own_fault
+returns-in_err-own_fault c =
+    let r = err_from_is_err_and c.from_residual.result c.from_residual.ensures.1 in
+    rw (r.1, r.2) (register_own c.args.table.now (λ k. omega (arith, c.slice_known-1.given k)) c.requires.0 c.args.q _ _ _ c.requires.1 _ (sym c.own_fault.ensures ∙ c.in_err-own_fault.was))
+
+pub find-requires : goal.find-requires
+find-requires c =
     let a = c.args in
     let m = a.table.now in
-    let w : well_formed m ≡ true = c.requires.0 in
-    let s : seat_at m a.q.ca ≡ Some a.seat = c.requires.1 in
-    let o : Octets m = λ k. omega (arith, c.slice_known-1.given k) in
-    let z = seat_law m a.q.ca a.seat.index a.seat.first a.seat.held o w s in
+    let z = seat_law m a.q.ca _ _ _ (λ k. omega (arith, c.slice_known-1.given k)) c.requires.0 c.requires.1 in
     let places = z.places in
-    let q = passed m w in
+    let q = passed m c.requires.0 in
     let few = q.few in
     let room = q.top.room in
     omega arith
 
-pub returns-then-not-is_done : goal.returns-then-not-is_done
-returns-then-not-is_done c =
-    let a = c.args in
-    let m = a.table.now in
-    let w : well_formed m ≡ true = c.requires.0 in
-    let s : seat_at m a.q.ca ≡ Some a.seat = c.requires.1 in
-    let o : Octets m = λ k. omega (arith, c.slice_known-1.given k) in
-    let spot = find_at m a.seat.first a.seat.held a.q.ioa in
-    let own : c.seat_fault-own.result ≡ seat_fault a.q spot = c.seat_fault-own.ensures ∙ ap (seat_fault a.q) c.find-spot.ensures in
-    let d : is_done (seat_fault a.q spot) ≡ false = ap is_done (sym own) ∙ sym c.is_done.ensures ∙ c.if-not-is_done.true in
-    let z = register_own m o w a.q a.seat.index a.seat.first a.seat.held s d in
-    (c.reply_of.ensures ∙ (λ j. record { outcome = own j; place = 0 }) ∙ z.0, z.1)
+pub returns-in_default : goal.returns-in_default
+returns-in_default c =
+    let p = goal.at.returns-in_default c in
+    register_known c.args.table.now (λ k. omega (arith, c.slice_known-1.given k)) c.requires.0 c.args.q _ _ _ c.requires.1 (own_in p.In_ok-own_fault) _ (sym c.find.ensures ∙ c.in_default.is)
 
-pub room_at-room-requires : goal.room_at-room-requires
-room_at-room-requires c =
+pub room_at-requires : goal.room_at-requires
+room_at-requires c =
     let a = c.args in
     let m = a.table.now in
-    let w : well_formed m ≡ true = c.requires.0 in
-    let s : seat_at m a.q.ca ≡ Some a.seat = c.requires.1 in
-    let o : Octets m = λ k. omega (arith, c.slice_known-1.given k) in
-    let z = seat_law m a.q.ca a.seat.index a.seat.first a.seat.held o w s in
-    let q = passed m w in
+    let z = seat_law m a.q.ca _ _ _ (λ k. omega (arith, c.slice_known-1.given k)) c.requires.0 c.requires.1 in
+    let q = passed m c.requires.0 in
     (q.top.room, z.stations, q.top.s_high, q.few)
 
-pub returns-then-not-is_done-2 : goal.returns-then-not-is_done-2
-returns-then-not-is_done-2 c =
-    let a = c.args in
-    let m = a.table.now in
-    let w : well_formed m ≡ true = c.requires.0 in
-    let s : seat_at m a.q.ca ≡ Some a.seat = c.requires.1 in
-    let o : Octets m = λ k. omega (arith, c.slice_known-1.given k) in
-    let spot = find_at m a.seat.first a.seat.held a.q.ioa in
-    let own : c.seat_fault-own.result ≡ seat_fault a.q spot = c.seat_fault-own.ensures ∙ ap (seat_fault a.q) c.find-spot.ensures in
-    let d : is_done (seat_fault a.q spot) ≡ true = ap is_done (sym own) ∙ sym c.is_done.ensures ∙ c.if-not-is_done.false in
-    let r : is_done (room_at m a.seat.index) ≡ false = ap is_done (sym c.room_at-room.ensures) ∙ sym c.is_done-2.ensures ∙ c.if-not-is_done-2.true in
-    let x = c.room_at-room.ensures in
-    let z = register_room m o w a.q a.seat.index a.seat.first a.seat.held s d r in
-    (c.reply_of-then-not-is_done-2.ensures ∙ (λ j. record { outcome = x j; place = 0 }) ∙ z.0, z.1)
+pub returns-in_err-room_at : goal.returns-in_err-room_at
+returns-in_err-room_at c =
+    let p = goal.at.returns-in_err-room_at c in
+    let r = err_from_is_err_and c.from_residual-in_err-room_at.result c.from_residual-in_err-room_at.ensures.1 in
+    rw (r.1, r.2)
+    (register_room c.args.table.now (λ k. omega (arith, c.slice_known-1.given k)) c.requires.0 c.args.q _ _ _ c.requires.1 (own_in p.In_ok-own_fault) _ (free_in p.In-Err) _ (sym c.room_at.ensures ∙ c.in_err-room_at.was))
 
 pub insert-requires : goal.insert-requires
 insert-requires c =
-    let a = c.args in
-    let m = a.table.now in
-    let w : well_formed m ≡ true = c.requires.0 in
-    let s : seat_at m a.q.ca ≡ Some a.seat = c.requires.1 in
-    let o : Octets m = λ k. omega (arith, c.slice_known-1.given k) in
-    let spot = find_at m a.seat.first a.seat.held a.q.ioa in
-    let own : c.seat_fault-own.result ≡ seat_fault a.q spot = c.seat_fault-own.ensures ∙ ap (seat_fault a.q) c.find-spot.ensures in
-    let d : is_done (seat_fault a.q spot) ≡ true = ap is_done (sym own) ∙ sym c.is_done.ensures ∙ c.if-not-is_done.false in
-    let r : is_done (room_at m a.seat.index) ≡ true = ap is_done (sym c.room_at-room.ensures) ∙ sym c.is_done-2.ensures ∙ c.if-not-is_done-2.false in
-    let at : c.offset_of.result ≡ offset_of spot = c.offset_of.ensures ∙ ap offset_of c.find-spot.ensures in
-    let p = c.point_of.ensures in
-    let b = register_bounds m o w a.q a.seat.index a.seat.first a.seat.held s d r in
-    let ioa = b.0 in
-    let place = b.1.4 in
-    let pi = ap (λ (x : Point). x.ioa) p in
-    (omega (arith, c.struct_known-2-1.given), omega arith, (b.1.0, b.1.1, b.1.2, b.1.3, omega arith))
+    let p = goal.at.insert-requires c in
+    let b = register_bounds c.args.table.now (λ k. omega (arith, c.slice_known-1.given k)) c.requires.0 c.args.q _ _ _ c.requires.1 (own_in p.In_ok-own_fault) _ (free_in p.In-Err) (room_in p.In_ok-room_at) in
+    let pi = ap (λ (x : Point). x.ioa) c.point_of-point.ensures in
+    let low = b.0 in
+    (omega arith, omega arith, b.1)
 
 pub returns : goal.returns
 returns c =
+    let p = goal.at.returns c in
     let a = c.args in
-    let m = a.table.now in
-    let w : well_formed m ≡ true = c.requires.0 in
-    let s : seat_at m a.q.ca ≡ Some a.seat = c.requires.1 in
-    let o : Octets m = λ k. omega (arith, c.slice_known-1.given k) in
-    let spot = find_at m a.seat.first a.seat.held a.q.ioa in
-    let own : c.seat_fault-own.result ≡ seat_fault a.q spot = c.seat_fault-own.ensures ∙ ap (seat_fault a.q) c.find-spot.ensures in
-    let d : is_done (seat_fault a.q spot) ≡ true = ap is_done (sym own) ∙ sym c.is_done.ensures ∙ c.if-not-is_done.false in
-    let r : is_done (room_at m a.seat.index) ≡ true = ap is_done (sym c.room_at-room.ensures) ∙ sym c.is_done-2.ensures ∙ c.if-not-is_done-2.false in
-    let at : c.offset_of.result ≡ offset_of spot = c.offset_of.ensures ∙ ap offset_of c.find-spot.ensures in
-    let p = c.point_of.ensures in
-    let z = register_done m o w a.q a.seat.index a.seat.first a.seat.held s d r in
-    (c.reply_of-2.ensures ∙ z.0, c.insert.ensures ∙ (λ j. placed m a.q.ca (p j) a.seat.index a.seat.held (at j)) ∙ z.1)
+    let z = register_done a.table.now (λ k. omega (arith, c.slice_known-1.given k)) c.requires.0 a.q _ _ _ c.requires.1 (own_in p.In_ok-own_fault) _ (free_in p.In-Err) (room_in p.In_ok-room_at) in
+    (z.0, c.insert.ensures ∙ (λ j. placed a.table.now a.q.ca (c.point_of-point.ensures j) a.seat.index a.seat.held c.in-Err.at) ∙ z.1)

@@ -8,6 +8,5 @@ use Rattle.actor.proofs.room_at.Goals as goal
 pub returns : goal.returns
 unfolding room_at station_share_at
 returns c =
-    c.outcome_of.ensures
-    ∙ ap admission_outcome c.admission.ensures
-    ∙ ap (λ (s : StationShare). admission_outcome (admission_of (record { held = s.held; reservation = s.reservation; ceiling = s.ceiling }) s.free s.unmet)) c.share_here-here.ensures
+    c.admission.ensures
+    ∙ ap (λ (s : StationShare). admission_of (record { held = s.held; reservation = s.reservation; ceiling = s.ceiling }) s.free s.unmet) c.share_here-here.ensures

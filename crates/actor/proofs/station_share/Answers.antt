@@ -1,5 +1,6 @@
 -- Each way out is one law of shares. Assumes nothing.
-use mathlib.Core.Path.{◌≡◌, sym, ◌∙◌}
+use Rattle.std.specs.Prelude.{Ok}
+use mathlib.Core.Path.{◌≡◌, sym, ap, ◌∙◌}
 use mathlib.Core.Bool.{true, false}
 use Rattle.octets.specs.Number.{Octets}
 use Rattle.table.specs.Memory.{well_formed}
@@ -14,7 +15,7 @@ returns-then-not-well_formed c =
     let a = c.args in
     let m = a.table.now in
     let w : well_formed m ≡ false = sym c.well_formed-2.ensures ∙ c.if-not-well_formed.true in
-    c.no_share.ensures ∙ share_no_table m a.ca w
+    share_no_table m a.ca w
 
 pub seat_at-requires : goal.seat_at-requires
 seat_at-requires c =
@@ -31,7 +32,7 @@ returns-in_default c =
     let a = c.args in
     let m = a.table.now in
     let w : well_formed m ≡ true = sym c.well_formed-2.ensures ∙ c.if-not-well_formed.false in
-    c.no_share-in_default.ensures ∙ share_absent m w a.ca (sym c.seat_at.ensures ∙ c.in_default.is)
+    share_absent m w a.ca (sym c.seat_at.ensures ∙ c.in_default.is)
 
 pub share_here-requires : goal.share_here-requires
 share_here-requires c =
@@ -55,4 +56,4 @@ returns c =
     let w : well_formed m ≡ true = sym c.well_formed-2.ensures ∙ c.if-not-well_formed.false in
     let o : Octets m = λ k. omega (arith, c.shared_slice_known-1.given k) in
     let s = sym c.seat_at.ensures ∙ c.in-Some.is in
-    c.share_here.ensures ∙ share_found m w a.ca o _ _ _ s
+    ap Ok c.share_here.ensures ∙ share_found m w a.ca o _ _ _ s

@@ -1,7 +1,8 @@
 -- Each way out is one law of removal. Assumes nothing.
 use mathlib.Core.Path.{◌≡◌, sym, ◌∙◌}
 use mathlib.Core.Bool.{true, false}
-use Rattle.limits.specs.Outcome.{done}
+use Rattle.std.specs.Prelude.{Ok}
+use Rattle.replies.specs.Replies.{numbered}
 use Rattle.octets.specs.Number.{Octets}
 use Rattle.table.specs.Memory.{well_formed}
 use Rattle.registry.specs.Registry.{unregistering_all}
@@ -17,10 +18,10 @@ returns-then-not-well_formed c =
     let m = a.table.now in
     let w : well_formed m ≡ false = sym c.well_formed-2.ensures ∙ c.if-not-well_formed.true in
     let z = no_table unregistering_all m w in
-    (c.reply_of.ensures ∙ z.0, z.1)
+    z
 
-pub take_all_out-removed-requires : goal.take_all_out-removed-requires
-take_all_out-removed-requires c =
+pub take_all_out-requires : goal.take_all_out-requires
+take_all_out-requires c =
     let a = c.args in
     let m = a.table.now in
     let w : well_formed m ≡ true = sym c.well_formed-2.ensures ∙ c.if-not-well_formed.false in
@@ -35,5 +36,5 @@ returns c =
     let w : well_formed m ≡ true = sym c.well_formed-2.ensures ∙ c.if-not-well_formed.false in
     let o : Octets m = λ k. omega (arith, c.slice_known-1.given k) in
     let z = all_done m o w in
-    let n = c.take_all_out-removed.ensures.0 in
-    ((λ j. record { outcome = done; place = n j }) ∙ z.0, c.take_all_out-removed.ensures.1 ∙ z.1)
+    let n = c.take_all_out.ensures.0 in
+    ((λ j. numbered (Ok (n j))) ∙ z.0, c.take_all_out.ensures.1 ∙ z.1)

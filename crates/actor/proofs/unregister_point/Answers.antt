@@ -18,7 +18,7 @@ returns-then-not-well_formed c =
     let m = a.table.now in
     let w : well_formed m ≡ false = sym c.well_formed-2.ensures ∙ c.if-not-well_formed.true in
     let z = no_table (unregistering a.ca a.ioa) m w in
-    (c.reply_of.ensures ∙ z.0, z.1)
+    z
 
 pub seat_at-requires : goal.seat_at-requires
 seat_at-requires c =
@@ -36,7 +36,7 @@ returns-in_default c =
     let m = a.table.now in
     let w : well_formed m ≡ true = sym c.well_formed-2.ensures ∙ c.if-not-well_formed.false in
     let z = out_absent m w a.ca a.ioa (sym c.seat_at.ensures ∙ c.in_default.is) in
-    (c.reply_of-in_default.ensures ∙ z.0, z.1)
+    z
 
 pub find-requires : goal.find-requires
 find-requires c =
@@ -60,7 +60,7 @@ returns-in_default-find c =
     let o : Octets m = λ k. omega (arith, c.slice_known-1.given k) in
     let s = sym c.seat_at.ensures ∙ c.in-Some.is in
     let z = out_missing m w a.ca a.ioa o _ _ _ s _ (sym c.find.ensures ∙ c.in_default-find.is) in
-    (c.reply_of-in_default-find.ensures ∙ z.0, z.1)
+    z
 
 pub take_out-requires : goal.take_out-requires
 take_out-requires c =
@@ -80,4 +80,4 @@ returns c =
     let o : Octets m = λ k. omega (arith, c.slice_known-1.given k) in
     let s = sym c.seat_at.ensures ∙ c.in-Some.is in
     let z = out_done m w a.ca a.ioa o _ _ _ s _ (sym c.find.ensures ∙ c.in-Ok.is) in
-    (c.reply_of-2.ensures ∙ z.0, c.take_out.ensures ∙ z.1)
+    (z.0, c.take_out.ensures ∙ z.1)
