@@ -10,11 +10,12 @@ ghost use Rattle.table.specs.Memory.{well_formed, table_of};
 ghost use Rattle.lookup.specs.Find.{find_at};
 ghost use Rattle.batch_records.specs.Records.{record_octets, records_in, requests_in, earlier_at, stands_before};
 ghost use Rattle.registry.specs.Registry.{batch_fault, own_tests};
+ghost use Rattle.replies.specs.Replies.{placed};
 ghost use Rattle.batch_tests.specs.Tests.{flag_count, address_flag, flag_at, comes_again};
 
 use batch_records::{IOA_IN_RECORD, RECORD_OCTETS};
-use limits::outcome::Outcome;
-use registry::Reply;
+use limits::outcome::Refusal;
+use registry::Fault;
 
 // How many flags there are for the addresses passed.
 const FLAGS: usize = 16384;
@@ -67,7 +68,7 @@ fn stands_flagged(records: &[u8], ca: usize, ioa: usize, n: usize, flag: u8) -> 
 }
 
 // The first of the tests 11 to 17 that the record of place i fails: the earlier records of the batch count for 16, the table for 12 and 17.
-fn fault_at(m: &[u8], records: &[u8], i: usize, flag: u8) -> Outcome
+fn fault_at(m: &[u8], records: &[u8], i: usize, flag: u8) -> Result<(), Refusal>
     requires { (well_formed m.now ≡ true) × (record_octets * i + record_octets ≤ length records.now) × (flag ≡ 0 → comes_again records.now i ≡ false) }
     ensures { result ≡ batch_fault (table_of m.now) (earlier_at records.now i) (request_at records.now (record_octets * i)) }
 {
@@ -78,48 +79,39 @@ fn fault_at(m: &[u8], records: &[u8], i: usize, flag: u8) -> Outcome
     let Some(seat) = lookup::seat_at(m, ca) else {
         return model::own_fault(false, request);
     };
-    let own = model::own_fault(true, request);
-    if !own.is_done() {
-        return own;
-    }
+    model::own_fault(true, request)?;
     if stands_flagged(records, ca, ioa, i, flag) {
-        return Outcome::AddressTwice;
+        return Err(Refusal::AddressTwice);
     }
     if is_held(m, seat.first, seat.held, ioa) {
-        return Outcome::AlreadyRegistered;
+        return Err(Refusal::AlreadyRegistered);
     }
-    Outcome::Done
+    Ok(())
 }
 
 // The tests of one record after another; the flags of those that passed are set.
-fn tests_of(m: &[u8], records: &[u8], flags: &mut [u8; FLAGS], apart: bool) -> Reply
+fn tests_of(m: &[u8], records: &[u8], flags: &mut [u8; FLAGS], apart: bool) -> Result<(), Fault>
     requires { (well_formed m.now ≡ true) × (length flags.old ≡ flag_count) × (apart ≡ true → Differ records.now (records_in records.now)) }
-    ensures { result ≡ own_tests (table_of m.now) [] 0 (requests_in records.now) }
+    ensures { placed result ≡ own_tests (table_of m.now) [] 0 (requests_in records.now) }
 {
     let n = records.len() / RECORD_OCTETS;
-    let mut i: usize = 0;
-    while i < n {
+    for i in 0..n {
         let k = flag_at(records, RECORD_OCTETS * i);
-        let outcome = fault_at(m, records, i, flag_asked(apart, flags[k]));
-        if !outcome.is_done() {
-            return Reply {
-                outcome: outcome,
+        if let Err(refusal) = fault_at(m, records, i, flag_asked(apart, flags[k])) {
+            return Err(Fault {
+                refusal: refusal,
                 place: i,
-            };
+            });
         }
         flags[k] = 1;
-        i += 1;
     }
-    Reply {
-        outcome: Outcome::Done,
-        place: 0,
-    }
+    Ok(())
 }
 
 // Every record passes its own tests, or the first that does not is named. `apart` says that no two have one address, where that is known.
-pub fn own_tests(m: &[u8], records: &[u8], apart: bool) -> Reply
+pub fn own_tests(m: &[u8], records: &[u8], apart: bool) -> Result<(), Fault>
     requires { (well_formed m.now ≡ true) × (apart ≡ true → Differ records.now (records_in records.now)) }
-    ensures { result ≡ own_tests (table_of m.now) [] 0 (requests_in records.now) }
+    ensures { placed result ≡ own_tests (table_of m.now) [] 0 (requests_in records.now) }
 {
     let mut flags = [0u8; FLAGS];
     tests_of(m, records, &mut flags, apart)

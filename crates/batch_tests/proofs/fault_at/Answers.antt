@@ -1,4 +1,5 @@
 -- One record's tests: the seat says which station it is, and each way out is one case of `batch_fault`. Assumes nothing.
+use Rattle.std.proofs.lemmas.Result.{err_from_is_err_and}
 use Rattle.std.specs.Prelude.{None, is_ok}
 use native.Mathlib.Omega.{arith}
 use mathlib.Core.Path.{◌≡◌, sym, ap, ap₂, ◌∙◌}
@@ -18,7 +19,7 @@ use Rattle.batch_records.specs.Records.{earlier_at, stands_before}
 use Rattle.batch_records.proofs.Laws.{stands_law}
 use Rattle.batch_tests.proofs.Laws.{fault_unplanned, fault_own, fault_twice, fault_known, fault_none, held_known}
 use Rattle.batch_tests.proofs.fault_at.Goals as goal
-use Rattle.batch_tests.proofs.fault_at.Goals.{After-is_done, After-is_held, After-own_fault-own, After-stands_flagged, In-Some}
+use Rattle.batch_tests.proofs.fault_at.Goals.{After-is_held, After-stands_flagged, In-Some, In_ok-own_fault}
 
 -- the station's seat
 seen : (c : In-Some) →
@@ -29,12 +30,8 @@ seen c =
     seat_law m _ _ _ _ o c.requires.0 (ap (seat_at m) (sym c.two_at-ca.ensures.0) ∙ sym c.seat_at.ensures ∙ c.in-Some.is)
 
 -- the tests of the record alone
-own : (c : After-own_fault-own) → c.own_fault-own.result ≡ own_fault true (request_at c.args.records.now (24 * c.args.i))
-own c =
-    c.own_fault-own.ensures ∙ ap (own_fault true) c.request_at-request.ensures
-
-own_done : (c : After-is_done) → is_done (own_fault true (request_at c.args.records.now (24 * c.args.i))) ≡ c.is_done.result
-own_done c = sym (c.is_done.ensures ∙ ap is_done (c.own_fault-own.ensures ∙ ap (own_fault true) c.request_at-request.ensures))
+own_done : (c : In_ok-own_fault) → is_done (own_fault true (request_at c.args.records.now (24 * c.args.i))) ≡ true
+own_done c = ap is_done (sym (c.own_fault-2.ensures ∙ ap (own_fault true) c.request_at-request.ensures) ∙ c.in_ok-own_fault.was)
 
 -- whether an earlier record has its address
 stands : (c : After-stands_flagged) →
@@ -62,11 +59,12 @@ returns-in_default c =
     let none-there : seat_at m q.ca ≡ None = ap (seat_at m) (sym c.two_at-ca.ensures.0) ∙ sym c.seat_at.ensures ∙ c.in_default.is in
     c.own_fault.ensures ∙ ap (own_fault false) c.request_at-request.ensures ∙ fault_unplanned (table_of m) (earlier_at c.args.records.now c.args.i) q (absent_law m q.ca none-there)
 
-pub returns-then-not-is_done : goal.returns-then-not-is_done
-returns-then-not-is_done c =
-    let z = seen (goal.at.returns-then-not-is_done c).In-Some in
-    let s = z.seat in
-    own (goal.at.returns-then-not-is_done c).After-own_fault-own ∙ fault_own (table_of c.args.m.now) (earlier_at c.args.records.now c.args.i) (request_at c.args.records.now (24 * c.args.i)) s.s s.is_station (own_done (goal.at.returns-then-not-is_done c).After-is_done ∙ c.if-not-is_done.true)
+pub returns-in_err-own_fault : goal.returns-in_err-own_fault
+returns-in_err-own_fault c =
+    let r = err_from_is_err_and c.from_residual.result c.from_residual.ensures.1 in
+    let z = seen (goal.at.returns-in_err-own_fault c).In-Some in
+    let own = sym (c.own_fault-2.ensures ∙ ap (own_fault true) c.request_at-request.ensures) ∙ c.in_err-own_fault.was in
+    rw (r.1, r.2) (sym own ∙ fault_own (table_of c.args.m.now) (earlier_at c.args.records.now c.args.i) (request_at c.args.records.now (24 * c.args.i)) z.seat.s z.seat.is_station (ap is_done own))
 
 pub stands_flagged-requires : goal.stands_flagged-requires
 stands_flagged-requires c =
@@ -76,7 +74,7 @@ pub returns-then-stands_flagged : goal.returns-then-stands_flagged
 returns-then-stands_flagged c =
     let z = seen (goal.at.returns-then-stands_flagged c).In-Some in
     let s = z.seat in
-    fault_twice (table_of c.args.m.now) (earlier_at c.args.records.now c.args.i) (request_at c.args.records.now (24 * c.args.i)) s.s s.is_station (own_done (goal.at.returns-then-stands_flagged c).After-is_done ∙ c.if-not-is_done.false) (stands (goal.at.returns-then-stands_flagged c).After-stands_flagged ∙ c.if-stands_flagged.true)
+    fault_twice (table_of c.args.m.now) (earlier_at c.args.records.now c.args.i) (request_at c.args.records.now (24 * c.args.i)) s.s s.is_station (own_done (goal.at.returns-then-stands_flagged c).In_ok-own_fault) (stands (goal.at.returns-then-stands_flagged c).After-stands_flagged ∙ c.if-stands_flagged.true)
 
 pub is_held-requires : goal.is_held-requires
 is_held-requires c =
@@ -90,10 +88,10 @@ pub returns-then-is_held : goal.returns-then-is_held
 returns-then-is_held c =
     let z = seen (goal.at.returns-then-is_held c).In-Some in
     let s = z.seat in
-    fault_known (table_of c.args.m.now) (earlier_at c.args.records.now c.args.i) (request_at c.args.records.now (24 * c.args.i)) s.s s.is_station (own_done (goal.at.returns-then-is_held c).After-is_done ∙ c.if-not-is_done.false) (stands (goal.at.returns-then-is_held c).After-stands_flagged ∙ c.if-stands_flagged.false) (holds (goal.at.returns-then-is_held c).After-is_held z ∙ c.if-is_held.true)
+    fault_known (table_of c.args.m.now) (earlier_at c.args.records.now c.args.i) (request_at c.args.records.now (24 * c.args.i)) s.s s.is_station (own_done (goal.at.returns-then-is_held c).In_ok-own_fault) (stands (goal.at.returns-then-is_held c).After-stands_flagged ∙ c.if-stands_flagged.false) (holds (goal.at.returns-then-is_held c).After-is_held z ∙ c.if-is_held.true)
 
 pub returns : goal.returns
 returns c =
     let z = seen (goal.at.returns c).In-Some in
     let s = z.seat in
-    fault_none (table_of c.args.m.now) (earlier_at c.args.records.now c.args.i) (request_at c.args.records.now (24 * c.args.i)) s.s s.is_station (own_done (goal.at.returns c).After-is_done ∙ c.if-not-is_done.false) (stands (goal.at.returns c).After-stands_flagged ∙ c.if-stands_flagged.false) (holds (goal.at.returns c).After-is_held z ∙ c.if-is_held.false)
+    fault_none (table_of c.args.m.now) (earlier_at c.args.records.now c.args.i) (request_at c.args.records.now (24 * c.args.i)) s.s s.is_station (own_done (goal.at.returns c).In_ok-own_fault) (stands (goal.at.returns c).After-stands_flagged ∙ c.if-stands_flagged.false) (holds (goal.at.returns c).After-is_held z ∙ c.if-is_held.false)

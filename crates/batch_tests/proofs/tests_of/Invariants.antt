@@ -14,7 +14,4 @@ use Rattle.batch_tests.proofs.tests_of.Given as goal
 abbrev pub invariant-loop-i : goal.invariant-loop-i
 invariant-loop-i l =
     (own_tests (table_of l.m) [] 0 (requests_in l.records) ≡ own_tests (table_of l.m) (earlier_at l.records l.i) l.i (requests_at l.records (24 * l.i) (l.n - l.i)))
-    × Marked l.flags l.records l.i × (length l.flags ≡ 16384) × (l.i ≤ l.n) × (24 * l.n ≤ length l.records)
-
-abbrev pub decreases-loop-i : goal.decreases-loop-i
-decreases-loop-i l = l.n - l.i
+    × Marked l.flags l.records l.i × (length l.flags ≡ 16384) × (24 * l.n ≤ length l.records)
