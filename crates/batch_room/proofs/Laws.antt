@@ -33,9 +33,8 @@ use Rattle.lookup.specs.Seats.{here, seat_in, seat_at}
 use Rattle.lookup.proofs.Laws.{same_numbers}
 use Rattle.registry.specs.Effect.{Reply}
 use Rattle.registry.specs.Effect.{Effect, refused}
-use Rattle.registry.specs.Registry.{admission_outcome, room_fault, with_request, room_tests}
+use Rattle.registry.specs.Registry.{room_fault, with_request, room_tests}
 use Rattle.registry.specs.History.{Holding, holding_of}
-use Rattle.registry.proofs.Requests.{admitted_is}
 use Rattle.batch_records.proofs.Laws.{requests_on, requests_end}
 use Rattle.batch_room.specs.declared.Standing.{Standing}
 use Rattle.batch_room.specs.Room.{room_reply, share_with, standing_of, station_at, standing_at, taken_at, room_run, taken_run, holding_with, TookIn}
@@ -62,7 +61,7 @@ seat_inside m ca s e = let r = seat_index m ca 0 64 (64 + 48 * two m 4) (two m 6
 -- who is admitted is below the ceiling
 pub done_below : (s : Share) (free unmet : ℕ) → is_done (standing_of s free unmet).outcome ≡ true → s.held < s.ceiling
 unfolding standing_of
-done_below s free unmet d = (admitted_only s free unmet (admitted_is _ (done_is _ d))).below_ceiling
+done_below s free unmet d = (admitted_only s free unmet (done_is _ d)).below_ceiling
 
 -- ---- the turns of the loop
 
@@ -147,7 +146,7 @@ same_fault m taken free unmet' t ca (Some s) a e =
     let u : unmet' ≡ total unmet t.stations = a.is_unmet in
     let f' : free ≡ t.capacity - total held_of (map share_of t.stations) = f ∙ ap (λ (x : ℕ). t.capacity - x) (sym (total_held t.stations)) in
     let u' : unmet' ≡ total unmet_of (map share_of t.stations) = u ∙ sym (total_unmet t.stations) in
-    (λ k. admission_outcome (admission_of (sym q.share k) (f' k) (u' k))) ∙ sym (ap (room_fault t) q.is_station)
+    (λ k. admission_of (sym q.share k) (f' k) (u' k)) ∙ sym (ap (room_fault t) q.is_station)
 same_fault m taken free unmet' t ca None a e = sym (ap (room_fault t) (unplanned_at m taken free unmet' t ca a e))
 
 -- the sums with one point more at a station

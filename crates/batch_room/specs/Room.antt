@@ -14,7 +14,7 @@ use Rattle.lookup.specs.Seats.{seat_at}
 use Rattle.table.specs.Table.{Station, Table, held}
 use Rattle.wellformed.specs.Station.{share_at}
 use Rattle.registry.specs.Effect.{Reply}
-use Rattle.registry.specs.Registry.{admission_outcome, room_tests}
+use Rattle.registry.specs.Registry.{room_tests}
 use Rattle.registry.specs.History.{Holding, holding_of}
 use Rattle.batch_room.specs.declared.Standing.{Standing}
 
@@ -41,7 +41,7 @@ share_with m at taken = record { held = (share_at m at).held + taken; reservatio
 -- the rule's answer, and what is free and unmet with one point more
 unfoldable pub standing_of : Share → ℕ → ℕ → Standing
 standing_of s free unmet =
-    record { outcome = admission_outcome (admission_of s free unmet); free = free - 1; unmet = unmet - (unmet_of s - unmet_of (taken_in s)) }
+    record { outcome = admission_of s free unmet; free = free - 1; unmet = unmet - (unmet_of s - unmet_of (taken_in s)) }
 
 -- where the octets of the station of index i lie
 abbrev pub station_at : List ℕ → ℕ → ℕ
@@ -50,7 +50,7 @@ station_at m i = stations_from m + station_size * i
 -- the turn of a request whose station has a seat
 unfoldable pub standing_at : List ℕ → List ℕ → Option Seat → ℕ → ℕ → Standing
 standing_at m taken (Some seat) free unmet = standing_of (share_with m (station_at m seat.index) (get_or taken seat.index 0)) free unmet
-standing_at m taken None free unmet = record { outcome = (Err StationNotPlanned); free = free; unmet = unmet }
+standing_at m taken None free unmet = record { outcome = Err StationNotPlanned; free = free; unmet = unmet }
 
 -- what the stations have taken in after the turn
 unfoldable pub taken_at : List ℕ → List ℕ → Option Seat → ℕ → ℕ → List ℕ

@@ -4,19 +4,20 @@
 ghost use Rattle.std.specs.Prelude.{◌≡◌, ◌+◌, ◌-◌, ◌≤◌, ◌<◌, length, replicate};
 ghost use Rattle.layout.specs.Layout.{station_size, most_stations, stations_in, size_in};
 ghost use Rattle.batch_records.specs.Records.{requests_in};
+ghost use Rattle.replies.specs.Replies.{placed};
 ghost use Rattle.table.specs.Memory.{table_of};
 ghost use Rattle.batch_room.specs.Room.{share_with, standing_of, Turned, AllTurned, room_reply, TookIn};
 
 use batch_records::RECORD_OCTETS;
 use layout::{HEAD_SIZE, MOST_STATIONS, PLACE_SIZE};
-use limits::outcome::Outcome;
+use limits::outcome::Refusal;
 use limits::share::Share;
-use registry::Reply;
+use registry::Fault;
 
 // What a request is answered for room, and what is free and unmet after it.
 #[derive(Clone, Copy)]
 pub struct Standing {
-    pub outcome: Outcome,
+    pub outcome: Result<(), Refusal>,
     pub free: usize,
     pub unmet: usize,
 }
@@ -38,9 +39,8 @@ fn ask(share: Share, free: usize, unmet: usize) -> Standing
     let answer = share.admission(free, unmet);
     let more = share.take_in();
     let met = without(share.unmet(), more.unmet());
-    let outcome = replies::outcome_of(answer);
     Standing {
-        outcome: outcome,
+        outcome: answer,
         free: without(free, 1),
         unmet: without(unmet, met),
     }
@@ -73,7 +73,7 @@ fn turn(
 {
     let Some(seat) = lookup::seat_at(m, ca) else {
         return Standing {
-            outcome: Outcome::StationNotPlanned,
+            outcome: Err(Refusal::StationNotPlanned),
             free: free,
             unmet: unmet,
         };
@@ -83,8 +83,7 @@ fn turn(
     let earlier = taken[index];
     let share = share_with(m, station, earlier);
     let standing = ask(share, free, unmet);
-    let outcome = standing.outcome;
-    if !outcome.is_done() {
+    if standing.outcome.is_err() {
         return standing;
     }
     taken[index] = earlier + 1;
@@ -98,38 +97,32 @@ fn turns(
     taken: &mut [u16; MOST_STATIONS],
     free: usize,
     unmet: usize,
-) -> Reply
+) -> Result<(), Fault>
     requires { (stations_in m.now ≤ most_stations) × (size_in m.now ≤ length m.now) }
-    ensures { AllTurned m.now taken.old free unmet (requests_in records.now) result taken.new }
+    ensures { AllTurned m.now taken.old free unmet (requests_in records.now) (placed result) taken.new }
 {
     let n = records.len() / RECORD_OCTETS;
     let mut free_now = free;
     let mut unmet_now = unmet;
-    let mut i: usize = 0;
-    while i < n {
+    for i in 0..n {
         let ca = octets::two_at(records, RECORD_OCTETS * i);
         let standing = turn(m, taken, ca, free_now, unmet_now);
-        let outcome = standing.outcome;
-        if !outcome.is_done() {
-            return Reply {
-                outcome: outcome,
+        if let Err(refusal) = standing.outcome {
+            return Err(Fault {
+                refusal: refusal,
                 place: i,
-            };
+            });
         }
         free_now = standing.free;
         unmet_now = standing.unmet;
-        i += 1;
     }
-    Reply {
-        outcome: Outcome::Done,
-        place: 0,
-    }
+    Ok(())
 }
 
 // The share rule over a batch: done, or the first point that has no room. `taken`, which has nothing yet, tells what each station took in.
-pub fn room_tests(m: &[u8], records: &[u8], taken: &mut [u16; MOST_STATIONS]) -> Reply
+pub fn room_tests(m: &[u8], records: &[u8], taken: &mut [u16; MOST_STATIONS]) -> Result<(), Fault>
     requires { (stations_in m.now ≤ most_stations) × (size_in m.now ≤ length m.now) × (taken.old ≡ replicate most_stations 0) }
-    ensures { (result ≡ room_reply (table_of m.now) (requests_in records.now)) × TookIn (table_of m.now) (requests_in records.now) taken.new }
+    ensures { (placed result ≡ room_reply (table_of m.now) (requests_in records.now)) × TookIn (table_of m.now) (requests_in records.now) taken.new }
 {
     let k = layout::capacity_of(m);
     let n = layout::stations_of(m);

@@ -9,7 +9,7 @@ pub returns : goal.returns
 unfolding standing_of
 returns c =
     let a = c.args in
-    let answer = c.outcome_of-outcome.ensures ∙ ap admission_outcome c.admission-answer.ensures in
+    let answer = c.admission-answer.ensures in
     let more = c.take_in-more.ensures in
     let lost = c.without-met.ensures
     ∙ ap₂ (λ (x y : _). x - y) c.unmet.ensures (c.unmet-2.ensures ∙ ap unmet_of more) in

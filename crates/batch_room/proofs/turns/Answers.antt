@@ -1,27 +1,28 @@
 use native.Mathlib.Omega.{arith}
 use mathlib.Core.Path.{sym, ap, ◌∙◌}
 use Prim.Native.Nat.{ℕ}
+use Rattle.limits.specs.Outcome.{Outcome, is_done}
 use Rattle.lookup.specs.Seats.{seat_at}
 use Rattle.batch_room.specs.Room.{standing_at, taken_at}
 use Rattle.batch_room.proofs.Laws.{run_start, run_on_lem, run_stop, run_end, taken_start, taken_on, taken_stop, taken_end}
 use Rattle.batch_room.proofs.turns.Goals as goal
 
 pub loop-i-init : goal.loop-i-init
-loop-i-init c = (run_start _ _ _ _ _ 0 _, taken_start _ _ _ _ _ 0 _, omega arith, omega arith)
+loop-i-init c = (run_start _ _ _ _ _ 0 _, taken_start _ _ _ _ _ 0 _, omega arith)
 
 pub two_at-ca-requires : goal.two_at-ca-requires
 two_at-ca-requires c = omega arith
 
-pub returns-then-not-is_done : goal.returns-then-not-is_done
-returns-then-not-is_done c =
+pub returns-in-Err : goal.returns-in-Err
+returns-in-Err c =
     let a = c.args in
     let l = c.loop-i in
     let k = c.two_at-ca.ensures.0 in
     let t = c.turn-standing in
     let s = t.ensures.0 ∙ ap (λ (x : ℕ). standing_at a.m.now l.taken (seat_at a.m.now x) c.loop-i.free_now c.loop-i.unmet_now) k in
     let u = t.ensures.1 ∙ ap (λ (x : ℕ). taken_at a.m.now l.taken (seat_at a.m.now x) c.loop-i.free_now c.loop-i.unmet_now) k in
-    let d = sym c.is_done.ensures ∙ c.if-not-is_done.true in (
-      sym (l.invariant.0 ∙ run_stop _ _ _ _ _ _ _ (omega arith) t.result s d),
+    let d = ap is_done c.in-Err.is in (
+      sym (l.invariant.0 ∙ run_stop _ _ _ _ _ _ _ (omega arith) t.result s d ∙ ap (λ (o : Outcome). record { outcome = o; place = l.i }) c.in-Err.is),
       u ∙ sym (l.invariant.1 ∙ taken_stop _ _ _ _ _ _ _ (omega arith) t.result s d),
     )
 
@@ -33,10 +34,9 @@ loop-i-preserved c =
     let t = c.turn-standing in
     let s = t.ensures.0 ∙ ap (λ (x : ℕ). standing_at a.m.now l.taken (seat_at a.m.now x) c.loop-i.free_now c.loop-i.unmet_now) k in
     let u = t.ensures.1 ∙ ap (λ (x : ℕ). taken_at a.m.now l.taken (seat_at a.m.now x) c.loop-i.free_now c.loop-i.unmet_now) k in
-    let d = sym c.is_done.ensures ∙ c.if-not-is_done.false in (
+    let d = ap is_done c.in_default.is in (
       l.invariant.0 ∙ run_on_lem _ _ _ _ _ _ _ (omega arith) t.result s _ u d,
       l.invariant.1 ∙ taken_on _ _ _ _ _ _ _ (omega arith) t.result s _ u d,
-      omega arith,
       omega arith,
     )
 

@@ -11,7 +11,4 @@ abbrev pub invariant-loop-i : goal.invariant-loop-i
 invariant-loop-i l =
     (room_run l.m l.initial.taken l.free l.unmet 0 (requests_in l.records) ≡ room_run l.m l.taken l.free_now l.unmet_now l.i (requests_at l.records (24 * l.i) (l.n - l.i)))
     × (taken_run l.m l.initial.taken l.free l.unmet (requests_in l.records) ≡ taken_run l.m l.taken l.free_now l.unmet_now (requests_at l.records (24 * l.i) (l.n - l.i)))
-    × (l.i ≤ l.n) × (24 * l.n ≤ length l.records)
-
-abbrev pub decreases-loop-i : goal.decreases-loop-i
-decreases-loop-i l = l.n - l.i
+    × (24 * l.n ≤ length l.records)
