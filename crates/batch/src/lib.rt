@@ -8,7 +8,7 @@ ghost use Rattle.batch_records.specs.Records.{requests_in};
 ghost use Rattle.merging.specs.Merge.{SortedNumbers};
 ghost use Rattle.batch_room.specs.Room.{TookIn};
 ghost use Rattle.batch.specs.Raise.{raised, Raisable, AllPass};
-ghost use Rattle.replies.specs.Replies.{Replies};
+ghost use Rattle.replies.specs.Replies.{Replies, placed};
 ghost use Rattle.registry.specs.Effect.{holding};
 ghost use Rattle.registry.specs.Registry.{room_tests, registering_all};
 
@@ -16,9 +16,9 @@ use batch_records::RECORD_OCTETS;
 use layout::{
     HEAD_SIZE, HELD_OFFSET, MOST_PLACES, MOST_STATIONS, PLACE_SIZE, POINTS_OFFSET, STATION_SIZE,
 };
-use limits::outcome::Outcome;
+use limits::outcome::Refusal;
 use octets::wide16;
-use registry::Reply;
+use registry::Fault;
 
 // Adds to what each of the n stations from `at` holds what it took in.
 fn raise_held(m: &mut [u8], taken: &[u16; MOST_STATIONS], at: usize, n: usize)
@@ -49,28 +49,20 @@ fn store_all(m: &mut [u8], records: &[u8], taken: &[u16; MOST_STATIONS], numbers
 }
 
 // Registers a batch of points, given as flat records: 3, then 11 to 17 of each in list order, then 19 and 20; all or none.
-pub fn register_points(table: &mut [u8], records: &[u8]) -> Reply
-    ensures { Replies (registering_all (requests_in records.now)) table.old result table.new }
+pub fn register_points(table: &mut [u8], records: &[u8]) -> Result<(), Fault>
+    ensures { Replies (registering_all (requests_in records.now)) table.old (placed result) table.new }
 {
     if !wellformed::well_formed(table) {
-        return Reply {
-            outcome: Outcome::TableNotWellFormed,
+        return Err(Fault {
+            refusal: Refusal::TableNotWellFormed,
             place: 0,
-        };
+        });
     }
     let mut numbers = [0u64; MOST_PLACES];
     let apart = merging::order(records, &mut numbers);
-    let own = batch_tests::own_tests(table, records, apart);
-    let fault = own.outcome;
-    if !fault.is_done() {
-        return own;
-    }
+    batch_tests::own_tests(table, records, apart)?;
     let mut taken = [0u16; MOST_STATIONS];
-    let room = batch_room::room_tests(table, records, &mut taken);
-    let refusal = room.outcome;
-    if !refusal.is_done() {
-        return room;
-    }
+    batch_room::room_tests(table, records, &mut taken)?;
     store_all(table, records, &taken, &numbers);
-    room
+    Ok(())
 }
