@@ -17,7 +17,6 @@ use asdu::command::Command;
 use asdu::{confirmation, cot};
 use limits::outcome::Outcome;
 use limits::size::{ADDRESS_OCTETS, HEADER_OCTETS};
-use output::data::Written;
 use report::{Selection, Terms};
 
 // One negative confirmation with the first object alone.
@@ -89,7 +88,7 @@ pub fn report(
         cause: cause,
         ca: command.ca,
     };
-    let Written::Octets(octets) = output::data::put_data(
+    let Some(octets) = output::data::put_data(
         answer, before, before, table, reach, selection, types, terms,
     ) else {
         return Answered::nothing(Outcome::AnswerShort);
