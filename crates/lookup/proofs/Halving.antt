@@ -8,6 +8,7 @@ use native.Mathlib.Omega.{arith}
 use lib.ListN.{length}
 use lib.Dec.{leb, ltb, eqb}
 use borrow.Author.Tests.{leb-true, leb-false, ltb-true, ltb-false, eqb-true, eqb-false, ne_eqb}
+use Rattle.std.specs.Prelude.{Ok, Err}
 use Rattle.limits.specs.Test.{◌&◌, pick}
 use Rattle.limits.proofs.Tests.{both}
 use Rattle.octets.specs.Number.{three}
@@ -17,9 +18,7 @@ use Rattle.table.specs.Table.{rising}
 use Rattle.table.specs.Memory.{points_at}
 use Rattle.table.proofs.Points.{length_points_at}
 use Rattle.table.specs.Change.{seek_in, known, point_in}
-use Rattle.lookup.specs.declared.Bounds.{Bounds}
-use Rattle.lookup.specs.declared.Spot.TheVariants.{Held, Missing}
-use Rattle.lookup.specs.Find.{spot_in, ioa_at, narrowed, halve, spot_at, find_at}
+use Rattle.lookup.specs.Find.{spot_in, ioa_at, Bounds, narrowed, halve, spot_at, find_at}
 use Rattle.lookup.proofs.Walk.{nearer, missing_end, missing_at, held_at_lem}
 
 -- ---- halving, on numbers
@@ -229,7 +228,7 @@ find_law m first n ioa r =
     ∙ by_test (known ioa (points_at m first n)) refl
   where
     missing : known ioa (points_at m first n) ≡ false → (t : Bool) → ltb (seek_in ioa (points_at m first n)) n ≡ t → (u : Bool) → eqb (ioa_at m first (seek_in ioa (points_at m first n))) ioa ≡ u
-        → spot_at m first n ioa (seek_in ioa (points_at m first n)) ≡ Missing (first + 48 * seek_in ioa (points_at m first n))
+        → spot_at m first n ioa (seek_in ioa (points_at m first n)) ≡ Err (first + 48 * seek_in ioa (points_at m first n))
     missing k true e true f =
         let z : ◌≡◌ {A = Bool} true false = sym (known_at m first ioa n (seek_in ioa (points_at m first n)) (ltb-true _ _ e) (eqb-true _ _ f)) ∙ k in
         let y : ◌≡◌ {A = ℕ} 0 1 = cc in
@@ -238,7 +237,7 @@ find_law m first n ioa r =
     missing k false e u f = sym (missing_end m first n ioa (seek_in ioa (points_at m first n)) (ltb-false _ _ e))
 
     by_test : (b : Bool) → known ioa (points_at m first n) ≡ b → spot_at m first n ioa (seek_in ioa (points_at m first n))
-        ≡ pick b (Held (first + 48 * seek_in ioa (points_at m first n))) (Missing (first + 48 * seek_in ioa (points_at m first n)))
+        ≡ pick b (Ok (first + 48 * seek_in ioa (points_at m first n))) (Err (first + 48 * seek_in ioa (points_at m first n)))
     by_test true e = let s = stands m first ioa 0 n r e in sym (held_at_lem m first n ioa (seek_in ioa (points_at m first n)) s.inside s.is_ioa)
     by_test false e =
         missing e (ltb (seek_in ioa (points_at m first n)) n) refl (eqb (ioa_at m first (seek_in ioa (points_at m first n))) ioa) refl
@@ -257,13 +256,13 @@ pub record MissingAt (first n ioa at : ℕ) (ps : List Point) : Type 0 where
   pub inside : at ≤ first + 48 * n
 
 -- A place found holds the point with the IOA.
-pub held_law : (m : List ℕ) (first n ioa at : ℕ) → rising 0 (points_at m first n) ≡ true → find_at m first n ioa ≡ Held at
+pub held_law : (m : List ℕ) (first n ioa at : ℕ) → rising 0 (points_at m first n) ≡ true → find_at m first n ioa ≡ Ok at
     → HeldAt m first n ioa at (points_at m first n)
 unfolding spot_in
 held_law m first n ioa at r e = by_test (known ioa (points_at m first n)) refl (sym (find_law m first n ioa r) ∙ e)
   where
     by_test : (b : Bool) → known ioa (points_at m first n) ≡ b
-        → pick b (Held (first + 48 * seek_in ioa (points_at m first n))) (Missing (first + 48 * seek_in ioa (points_at m first n))) ≡ Held at → HeldAt m first n ioa at (points_at m first n)
+        → pick b (Ok (first + 48 * seek_in ioa (points_at m first n))) (Err (first + 48 * seek_in ioa (points_at m first n))) ≡ Ok at → HeldAt m first n ioa at (points_at m first n)
     by_test true k f =
         let s = stands m first ioa 0 n r k in
         let i = s.inside in
@@ -272,13 +271,13 @@ held_law m first n ioa at r e = by_test (known ioa (points_at m first n)) refl (
     by_test false k f = let z : ◌≡◌ {A = ℕ} 0 1 = cc in absurd (omega arith)
 
 -- No place found: no point has the IOA.
-pub missing_law : (m : List ℕ) (first n ioa at : ℕ) → rising 0 (points_at m first n) ≡ true → find_at m first n ioa ≡ Missing at
+pub missing_law : (m : List ℕ) (first n ioa at : ℕ) → rising 0 (points_at m first n) ≡ true → find_at m first n ioa ≡ Err at
     → MissingAt first n ioa at (points_at m first n)
 unfolding spot_in
 missing_law m first n ioa at r e = by_test (known ioa (points_at m first n)) refl (sym (find_law m first n ioa r) ∙ e)
   where
     by_test : (b : Bool) → known ioa (points_at m first n) ≡ b
-        → pick b (Held (first + 48 * seek_in ioa (points_at m first n))) (Missing (first + 48 * seek_in ioa (points_at m first n))) ≡ Missing at → MissingAt first n ioa at (points_at m first n)
+        → pick b (Ok (first + 48 * seek_in ioa (points_at m first n))) (Err (first + 48 * seek_in ioa (points_at m first n))) ≡ Err at → MissingAt first n ioa at (points_at m first n)
     by_test true k f = let z : ◌≡◌ {A = ℕ} 0 1 = cc in absurd (omega arith)
     by_test false k f =
         let p : first + 48 * seek_in ioa (points_at m first n) ≡ at = cc in
@@ -287,11 +286,11 @@ missing_law m first n ioa at r e = by_test (known ioa (points_at m first n)) ref
         record { not_known = k; place = sym p; inside = omega arith }
 
 -- where a missing point would go lies inside, whatever the places hold
-pub spot_inside : (m : List ℕ) (first n ioa at : ℕ) → find_at m first n ioa ≡ Missing at → (first ≤ at) × (at ≤ first + 48 * n)
+pub spot_inside : (m : List ℕ) (first n ioa at : ℕ) → find_at m first n ioa ≡ Err at → (first ≤ at) × (at ≤ first + 48 * n)
 unfolding find_at spot_at
 spot_inside m first n ioa at e = by_test (ltb (halve (ioa_at m first) ioa 0 n n) n & eqb (ioa_at m first (halve (ioa_at m first) ioa 0 n n)) ioa) e
   where
-    by_test : (b : Bool) → pick b (Held (first + 48 * halve (ioa_at m first) ioa 0 n n)) (Missing (first + 48 * halve (ioa_at m first) ioa 0 n n)) ≡ Missing at
+    by_test : (b : Bool) → pick b (Ok (first + 48 * halve (ioa_at m first) ioa 0 n n)) (Err (first + 48 * halve (ioa_at m first) ioa 0 n n)) ≡ Err at
         → (first ≤ at) × (at ≤ first + 48 * n)
     by_test true f = let z : ◌≡◌ {A = ℕ} 0 1 = cc in absurd (omega arith)
     by_test false f =

@@ -8,6 +8,7 @@ use native.Mathlib.Omega.{arith}
 use lib.ListN.{length, length-append}
 use lib.Dec.{eqb}
 use borrow.Author.Tests.{eqb-true, eqb-false}
+use Rattle.std.specs.Prelude.{Option, None}
 use Rattle.limits.specs.Test.{pick, total}
 use Rattle.octets.specs.Number.{two, Octets}
 use Rattle.octets.proofs.At.{At, at_fst, at_rest}
@@ -21,15 +22,14 @@ use Rattle.table.proofs.Cut.{bodies_at_lem, held_at_lem}
 use Rattle.table.proofs.Change.{Found, station_rises}
 use Rattle.table.proofs.Change.Absent.{absent_none, absent_more}
 use Rattle.lookup.specs.declared.Seat.{Seat}
-use Rattle.lookup.specs.declared.Seat.TheVariants.{Here, NotPlanned}
-use Rattle.lookup.specs.Seats.{seat_in, seat_at}
+use Rattle.lookup.specs.Seats.{here, seat_in, seat_at}
 
 -- ---- the seat in a list of stations
 
 -- the seat among stations, the first of which has index i and its places from `pb`
-unfoldable pub seat_of : ℕ → ℕ → ℕ → List Station → Seat
-seat_of ca i pb [] = NotPlanned
-seat_of ca i pb (s ∷ ss) = pick (eqb s.ca ca) (Here i pb (held s)) (seat_of ca (i + 1) (pb + 48 * held s) ss)
+unfoldable pub seat_of : ℕ → ℕ → ℕ → List Station → Option Seat
+seat_of ca i pb [] = None
+seat_of ca i pb (s ∷ ss) = pick (eqb s.ca ca) (here i pb (held s)) (seat_of ca (i + 1) (pb + 48 * held s) ss)
 
 -- what the code finds, as of the stations read: no condition
 pub seat_is : (m : List ℕ) (ca i pb sb n : ℕ) → seat_in m ca i pb sb n ≡ seat_of ca i pb (stations_at m pb sb n)
@@ -37,7 +37,7 @@ unfolding seat_in seat_of stations_at
 seat_is m ca i pb sb zero = refl
 seat_is m ca i pb sb (suc n) =
     let e : length (points_at m pb (two m (sb + 6))) ≡ two m (sb + 6) = length_points_at m pb (two m (sb + 6)) in
-    rw e (ap (λ (r : Seat). pick (eqb (two m sb) ca) (Here i pb (two m (sb + 6))) r) (seat_is m ca (i + 1) (pb + 48 * two m (sb + 6)) (sb + 8) n))
+    rw e (ap (λ (r : Option Seat). pick (eqb (two m sb) ca) (here i pb (two m (sb + 6))) r) (seat_is m ca (i + 1) (pb + 48 * two m (sb + 6)) (sb + 8) n))
 
 -- The seat read from memory is the seat in the table that the memory holds.
 pub seat_of_lem : (m : List ℕ) (ca : ℕ) → seat_at m ca ≡ seat_of ca 0 64 (table_of m).stations
@@ -53,23 +53,29 @@ pub record Seated (ss : List Station) (ca i pb j first h : ℕ) : Type 0 where
   pub index : j ≡ i + length found.before
   pub place : first ≡ pb + 48 * total held found.before
 
+-- one seat, one set of numbers
+pub same_numbers : {i pb g j first h : ℕ} → here i pb g ≡ here j first h → (i ≡ j) × (pb ≡ first) × (g ≡ h)
+same_numbers {i} {pb} {g} {j} {first} {h} e =
+    let s : ◌≡◌ {A = Seat} (record { index = i; first = pb; held = g }) (record { index = j; first = first; held = h }) = cc in
+    (ap (λ (x : Seat). x.index) s, ap (λ (x : Seat). x.first) s, ap (λ (x : Seat). x.held) s)
+
 -- a seat found
-pub seated : (ca i pb : ℕ) (ss : List Station) (j first h : ℕ) → seat_of ca i pb ss ≡ Here j first h → Seated ss ca i pb j first h
+pub seated : (ca i pb : ℕ) (ss : List Station) (j first h : ℕ) → seat_of ca i pb ss ≡ here j first h → Seated ss ca i pb j first h
 unfolding seat_of station_of total
 seated ca i pb [] j first h e = let z : ◌≡◌ {A = ℕ} 0 1 = cc in absurd (omega arith)
 seated ca i pb (s ∷ ss) j first h e = go (eqb s.ca ca) refl e (λ f. seated ca (i + 1) (pb + 48 * held s) ss j first h f)
   where
-    go : (b : Bool) → eqb s.ca ca ≡ b → pick b (Here i pb (held s)) (seat_of ca (i + 1) (pb + 48 * held s) ss) ≡ Here j first h
-        → (seat_of ca (i + 1) (pb + 48 * held s) ss ≡ Here j first h → Seated ss ca (i + 1) (pb + 48 * held s) j first h) → Seated (s ∷ ss) ca i pb j first h
+    go : (b : Bool) → eqb s.ca ca ≡ b → pick b (here i pb (held s)) (seat_of ca (i + 1) (pb + 48 * held s) ss) ≡ here j first h
+        → (seat_of ca (i + 1) (pb + 48 * held s) ss ≡ here j first h → Seated ss ca (i + 1) (pb + 48 * held s) j first h) → Seated (s ∷ ss) ca i pb j first h
     go true t f again =
-        let p : pb ≡ first = cc in
-        let c : held s ≡ h = cc in
-        let x : i ≡ j = cc in
+        let n = same_numbers f in
+        let x = n.0 in
+        let p = n.1 in
         record {
           s = s;
           found = record { before = []; after = ss; split = refl; absent = absent_none; is_ca = eqb-true _ _ t };
           is_station = simp t;
-          count = sym c;
+          count = sym n.2;
           index = omega arith;
           place = omega arith;
         }
@@ -94,13 +100,13 @@ seated ca i pb (s ∷ ss) j first h e = go (eqb s.ca ca) refl e (λ f. seated ca
         }
 
 -- none found: the plan has no such station
-pub not_planned : (ca i pb : ℕ) (ss : List Station) → seat_of ca i pb ss ≡ NotPlanned → station_of ca ss ≡ none
+pub not_planned : (ca i pb : ℕ) (ss : List Station) → seat_of ca i pb ss ≡ None → station_of ca ss ≡ none
 unfolding seat_of station_of
 not_planned ca i pb [] e = refl
 not_planned ca i pb (s ∷ ss) e = go (eqb s.ca ca) e (λ f. not_planned ca (i + 1) (pb + 48 * held s) ss f)
   where
-    go : (b : Bool) → pick b (Here i pb (held s)) (seat_of ca (i + 1) (pb + 48 * held s) ss) ≡ NotPlanned
-        → (seat_of ca (i + 1) (pb + 48 * held s) ss ≡ NotPlanned → station_of ca ss ≡ none) → pick b (some s) (station_of ca ss) ≡ none
+    go : (b : Bool) → pick b (here i pb (held s)) (seat_of ca (i + 1) (pb + 48 * held s) ss) ≡ None
+        → (seat_of ca (i + 1) (pb + 48 * held s) ss ≡ None → station_of ca ss ≡ none) → pick b (some s) (station_of ca ss) ≡ none
     go true f again = let z : ◌≡◌ {A = ℕ} 0 1 = cc in absurd (omega arith)
     go false f again = again f
 
@@ -134,7 +140,7 @@ pub record Seen (m : List ℕ) (ca i first h : ℕ) : Type 0 where
   pub stations : i < two m 6
 
 -- A seat found in a well-formed memory.
-pub seat_law : (m : List ℕ) (ca i first h : ℕ) → Octets m → well_formed m ≡ true → seat_at m ca ≡ Here i first h → Seen m ca i first h
+pub seat_law : (m : List ℕ) (ca i first h : ℕ) → Octets m → well_formed m ≡ true → seat_at m ca ≡ here i first h → Seen m ca i first h
 seat_law m ca i first h o w e =
     let gl = holds m o w in
     let t : Table = table_of m in
@@ -151,7 +157,7 @@ seat_law m ca i first h o w e =
     record { seat = d; lies = p.0; points = p.1; rises = station_rises t ca d.s gl.0 f; places = omega arith; stations = omega arith }
 
 -- No seat: the plan has no such station.
-pub absent_law : (m : List ℕ) (ca : ℕ) → seat_at m ca ≡ NotPlanned → station_of ca (table_of m).stations ≡ none
+pub absent_law : (m : List ℕ) (ca : ℕ) → seat_at m ca ≡ None → station_of ca (table_of m).stations ≡ none
 absent_law m ca e = not_planned ca 0 64 (table_of m).stations (sym (seat_of_lem m ca) ∙ e)
 
 -- Where a point of a station stands or would go: the station's index and held, and the place's offset by the points that lie before it.

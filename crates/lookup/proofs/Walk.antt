@@ -6,27 +6,25 @@ use Prim.Native.Nat.{ℕ, zero, suc, ◌+◌, ◌*◌, ◌-◌, ◌/◌, ◌≤�
 use native.Mathlib.Omega.{arith}
 use lib.Dec.{ltb}
 use borrow.Author.Tests.{eq-eqb, ne_eqb, lt-ltb, le-ltb, ltb-true}
+use Rattle.std.specs.Prelude.{None, Ok, Err}
 use Rattle.limits.specs.Test.{◌&◌, pick}
 use Rattle.octets.specs.Number.{two}
-use Rattle.lookup.specs.declared.Seat.TheVariants.{Here, NotPlanned}
-use Rattle.lookup.specs.Seats.{seat_in}
-use Rattle.lookup.specs.declared.Bounds.{Bounds}
-use Rattle.lookup.specs.declared.Spot.TheVariants.{Held, Missing}
-use Rattle.lookup.specs.Find.{narrowed, halve, ioa_at, spot_at}
+use Rattle.lookup.specs.Seats.{here, seat_in}
+use Rattle.lookup.specs.Find.{Bounds, narrowed, halve, ioa_at, spot_at}
+
+one_more : (n : ℕ) → 0 < n → n ≡ suc (n - 1)
+one_more n h = omega arith
 
 module _ (m : List ℕ) (ca i pb sb n : ℕ) (h : 0 < n) where
-  one_more : n ≡ suc (n - 1)
-  one_more = omega arith
-
-  pub seat_hit : two m sb ≡ ca → seat_in m ca i pb sb n ≡ Here i pb (two m (sb + 6))
+  pub seat_hit : two m sb ≡ ca → seat_in m ca i pb sb n ≡ here i pb (two m (sb + 6))
   unfolding seat_in
-  seat_hit e = ap (seat_in m ca i pb sb) one_more ∙ simp (eq-eqb _ _ e)
+  seat_hit e = ap (seat_in m ca i pb sb) (one_more n h) ∙ simp (eq-eqb _ _ e)
 
   pub seat_on : (two m sb ≡ ca → ⊥) → seat_in m ca i pb sb n ≡ seat_in m ca (i + 1) (pb + 48 * two m (sb + 6)) (sb + 8) (n - 1)
   unfolding seat_in
-  seat_on e = ap (seat_in m ca i pb sb) one_more ∙ simp (ne_eqb _ _ e)
+  seat_on e = ap (seat_in m ca i pb sb) (one_more n h) ∙ simp (ne_eqb _ _ e)
 
-pub seat_end : (m : List ℕ) (ca i pb sb n : ℕ) → n ≤ 0 → seat_in m ca i pb sb n ≡ NotPlanned
+pub seat_end : (m : List ℕ) (ca i pb sb n : ℕ) → n ≤ 0 → seat_in m ca i pb sb n ≡ None
 unfolding seat_in
 seat_end m ca i pb sb n h = let e : n ≡ 0 = omega arith in ap (seat_in m ca i pb sb) e
 
@@ -62,13 +60,23 @@ halve_turns key x low high (suc f) (suc g) a b =
     by_test true e again = again (ltb-true _ _ e)
     by_test false e again = refl
 
-pub halve_on : (key : ℕ → ℕ) (x low high n : ℕ) → low < high → high - low ≤ n
-    → halve key x low high n ≡ halve key x (narrowed key x low high).low (narrowed key x low high).high n
-unfolding halve
-halve_on key x low high zero h k = absurd (omega arith)
-halve_on key x low high (suc n) h k =
-    let l = (nearer key x low high h).less in
-    simp (lt-ltb _ _ h) (halve_turns key x (narrowed key x low high).low (narrowed key x low high).high n (suc n) (omega arith) (omega arith))
+module _ (key : ℕ → ℕ) (x low high n : ℕ) (h : low < high) (k : high - low ≤ n) where
+  halve_on : halve key x low high n ≡ halve key x (narrowed key x low high).low (narrowed key x low high).high n
+  unfolding halve
+  halve_on =
+      let l = (nearer key x low high h).less in
+      ap (halve key x low high) (one_more n (omega arith))
+      ∙ simp (lt-ltb _ _ h) (halve_turns key x (narrowed key x low high).low (narrowed key x low high).high (n - 1) n (omega arith) (omega arith))
+
+  -- The middle number is below x: on with those above it.
+  pub halve_up : key ((low + high) / 2) < x → halve key x low high n ≡ halve key x ((low + high) / 2 + 1) high n
+  unfolding narrowed
+  halve_up e = halve_on ∙ simp (lt-ltb _ _ e)
+
+  -- It is not: on with those before it.
+  pub halve_down : x ≤ key ((low + high) / 2) → halve key x low high n ≡ halve key x low ((low + high) / 2) n
+  unfolding narrowed
+  halve_down e = halve_on ∙ simp (le-ltb _ _ e)
 
 pub halve_end : (key : ℕ → ℕ) (x low high n : ℕ) → high ≤ low → halve key x low high n ≡ low
 unfolding halve
@@ -78,14 +86,14 @@ halve_end key x low high (suc n) h = simp (le-ltb _ _ h)
 -- ---- the answer for index j
 
 module _ (m : List ℕ) (first n ioa j : ℕ) where
-  pub missing_end : n ≤ j → Missing (first + 48 * j) ≡ spot_at m first n ioa j
+  pub missing_end : n ≤ j → Err (first + 48 * j) ≡ spot_at m first n ioa j
   unfolding spot_at ◌&◌
   missing_end h = simp (le-ltb _ _ h)
 
-  pub held_at_lem : j < n → ioa_at m first j ≡ ioa → Held (first + 48 * j) ≡ spot_at m first n ioa j
+  pub held_at_lem : j < n → ioa_at m first j ≡ ioa → Ok (first + 48 * j) ≡ spot_at m first n ioa j
   unfolding spot_at ◌&◌
   held_at_lem h e = simp (lt-ltb _ _ h, eq-eqb _ _ e)
 
-  pub missing_at : j < n → (ioa_at m first j ≡ ioa → ⊥) → Missing (first + 48 * j) ≡ spot_at m first n ioa j
+  pub missing_at : j < n → (ioa_at m first j ≡ ioa → ⊥) → Err (first + 48 * j) ≡ spot_at m first n ioa j
   unfolding spot_at ◌&◌
   missing_at h e = simp (lt-ltb _ _ h, ne_eqb _ _ e)
