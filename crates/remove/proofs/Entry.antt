@@ -1,5 +1,6 @@
 -- The laws as an entry has them, over a well-formed memory: where the seat and the place were found, the bounds that the code asks, the table
 -- that the memory holds afterwards, and that it is good. Assumes nothing.
+use Rattle.std.specs.Prelude.{Ok}
 use mathlib.Core.Path.{◌≡◌, sym, ap, ◌∙◌}
 use mathlib.Core.List.{List, ◌++◌}
 use mathlib.Core.Bool.{true}
@@ -14,9 +15,7 @@ use Rattle.table.specs.Table.{Station, Table, held, rising, image}
 use Rattle.table.specs.Memory.{points_at, table_of, well_formed}
 use Rattle.table.specs.Change.{station_of, seek_in, known, removed, emptied}
 use Rattle.table.proofs.Parse.{holds, parse_some}
-use Rattle.lookup.specs.declared.Seat.TheVariants.{Here}
-use Rattle.lookup.specs.declared.Spot.TheVariants.{Held}
-use Rattle.lookup.specs.Seats.{seat_at}
+use Rattle.lookup.specs.Seats.{here, seat_at}
 use Rattle.lookup.specs.Find.{find_at}
 use Rattle.lookup.proofs.Laws.{Seated, Seen, seat_law, Standing, standing}
 use Rattle.lookup.proofs.Halving.{HeldAt, held_law}
@@ -32,7 +31,7 @@ pub record TakenOut (m : List ℕ) (ca ioa i h at : ℕ) : Type 0 where
   pub bounds : Removable m i h at
   pub memory : taken_out m i h at ≡ image (removed (table_of m) ca ioa) ++ drop (length (image (table_of m))) m
 
-pub take_out_law : (m : List ℕ) (ca ioa i first h at : ℕ) → Octets m → well_formed m ≡ true → seat_at m ca ≡ Here i first h → find_at m first h ioa ≡ Held at
+pub take_out_law : (m : List ℕ) (ca ioa i first h at : ℕ) → Octets m → well_formed m ≡ true → seat_at m ca ≡ here i first h → find_at m first h ioa ≡ Ok at
     → TakenOut m ca ioa i h at
 take_out_law m ca ioa i first h at o w es ef =
     let t : Table = table_of m in

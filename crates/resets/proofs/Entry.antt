@@ -1,5 +1,6 @@
 -- The laws as an entry has them, over a well-formed memory: the bounds that the code asks, and the table that the memory holds afterwards,
 -- for a planned station, for CA 65,535 and for a CA that is not planned. Assumes nothing.
+use Rattle.std.specs.Prelude.{None}
 use mathlib.Core.Path.{◌≡◌, refl, sym, ap, ◌∙◌}
 use mathlib.Core.List.{List, [], ◌∷◌, ◌++◌}
 use mathlib.Core.Bool.{true}
@@ -17,8 +18,7 @@ use Rattle.table.specs.Change.{with_stations, station_of, in_station, with_point
 use Rattle.table.proofs.Parse.{holds, passed, printed}
 use Rattle.table.proofs.Change.{Absent, station_absent}
 use Rattle.table.proofs.Change.Absent.{absent_none, absent_more}
-use Rattle.lookup.specs.declared.Seat.TheVariants.{Here, NotPlanned}
-use Rattle.lookup.specs.Seats.{seat_at}
+use Rattle.lookup.specs.Seats.{here, seat_at}
 use Rattle.lookup.proofs.Laws.{Seated, Seen, seat_law, absent_law}
 use Rattle.registry.specs.Effect.{holding}
 use Rattle.asdu.specs.Header.{global_address}
@@ -57,7 +57,7 @@ pub record StationReset (m : List ℕ) (ca first h : ℕ) (sel : Selection) : Ty
   pub bounds : first + 48 * h ≤ length m
   pub memory : reset_places sel m first h ≡ holding m (table_of m) (reset_at (table_of m) ca sel)
 
-pub station_reset_law : (m : List ℕ) (ca i first h : ℕ) (sel : Selection) → Octets m → well_formed m ≡ true → seat_at m ca ≡ Here i first h
+pub station_reset_law : (m : List ℕ) (ca i first h : ℕ) (sel : Selection) → Octets m → well_formed m ≡ true → seat_at m ca ≡ here i first h
     → StationReset m ca first h sel
 station_reset_law m ca i first h sel o w e =
     let t : Table = table_of m in
@@ -98,7 +98,7 @@ every_reset_law m sel o w =
     }
 
 -- A CA that is neither planned nor 65,535: nothing changes.
-pub unplanned_reset_law : (m : List ℕ) (ca : ℕ) (sel : Selection) → Octets m → well_formed m ≡ true → seat_at m ca ≡ NotPlanned → (ca ≡ global_address → ⊥)
+pub unplanned_reset_law : (m : List ℕ) (ca : ℕ) (sel : Selection) → Octets m → well_formed m ≡ true → seat_at m ca ≡ None → (ca ≡ global_address → ⊥)
     → (reset_at (table_of m) ca sel ≡ table_of m) × (m ≡ holding m (table_of m) (reset_at (table_of m) ca sel))
 unplanned_reset_law m ca sel o w e n =
     let t : Table = table_of m in
