@@ -1,4 +1,5 @@
 -- The places that a common address reaches hold the points that it speaks of. Assumes nothing.
+use Rattle.std.specs.Prelude.{Option, Some, None}
 use mathlib.Core.Path.{◌≡◌, refl, sym, ap, ◌∙◌, subst}
 use mathlib.Core.List.{List, [], ◌∷◌, ◌++◌}
 use mathlib.Core.Bool.{Bool, true, false}
@@ -20,7 +21,6 @@ use Rattle.report.specs.Packing.{joined}
 use Rattle.report.specs.Order.{by_address, points_of, own_points, all_points, points_for}
 use Rattle.report.proofs.Order.{points_own}
 use Rattle.lookup.specs.declared.Seat.{Seat}
-use Rattle.lookup.specs.declared.Seat.TheVariants.{Here, NotPlanned}
 use Rattle.lookup.specs.Seats.{seat_at}
 use Rattle.lookup.proofs.Laws.{Seen, seat_law, absent_law}
 use Rattle.output.specs.Data.{arranged}
@@ -77,17 +77,17 @@ pub record Own (m : List ℕ) (ca : ℕ) (r : Reach) : Type 0 where
   pub few : r.n ≤ 4096
   pub points : arranged r.every (points_at m r.base r.n) ≡ own_points ca (table_of m).stations
 
-own_places : (m : List ℕ) (ca : ℕ) → Octets m → well_formed m ≡ true → (s : Seat) → seat_at m ca ≡ s → Own m ca (seat_reach s)
-own_places m ca o w (Here i first h) e =
+own_places : (m : List ℕ) (ca : ℕ) → Octets m → well_formed m ≡ true → (s : Option Seat) → seat_at m ca ≡ s → Own m ca (seat_reach s)
+own_places m ca o w (Some s) e =
     let p : Passed m = passed m w in
-    let v : Seen m ca i first h = seat_law m ca i first h o w e in
+    let v : Seen m ca s.index s.first s.held = seat_law m ca s.index s.first s.held o w e in
     let a = v.places in
     let z = v.seat.place in
     let t = p.top.room in
     let k = p.top.k_high in
     let f = p.few in
     record { lies = omega arith; few = omega arith; points = v.points ∙ sym (ap points_of v.seat.is_station) }
-own_places m ca o w NotPlanned e =
+own_places m ca o w None e =
     let t = (passed m w).top.long in
     record { lies = omega arith; few = omega arith; points = no_point m ∙ sym (ap points_of (absent_law m ca e)) }
 

@@ -10,16 +10,16 @@ use octets::wide16;
 use report::Reach;
 
 // A station's own places; none where the plan has no such station.
-fn seat_reach(seat: Seat) -> Reach
+fn seat_reach(seat: Option<Seat>) -> Reach
     ensures { result ≡ seat_reach seat }
 {
     match seat {
-        Seat::Here(_, first, held) => Reach {
-            base: first,
-            n: held,
+        Some(seat) => Reach {
+            base: seat.first,
+            n: seat.held,
             every: false,
         },
-        Seat::NotPlanned => Reach {
+        None => Reach {
             base: HEAD_SIZE,
             n: 0,
             every: false,
