@@ -1,4 +1,5 @@
 -- Registration of one point, as the code goes: each way out gives the number and the memory that the effect on the table says. Assumes nothing.
+use Rattle.std.specs.Prelude.{Err, None, Ok, Result}
 use mathlib.Core.Path.{◌≡◌, refl, sym, ap, ap₂, ◌∙◌}
 use mathlib.Core.List.{List}
 use mathlib.Core.Bool.{Bool, true, false}
@@ -19,10 +20,7 @@ use Rattle.table.specs.Table.{held}
 use Rattle.table.specs.Memory.{table_of, well_formed}
 use Rattle.table.specs.Change.{station_of, seek_in, known}
 use Rattle.table.proofs.Parse.{holds, parse_some}
-use Rattle.lookup.specs.declared.Seat.TheVariants.{Here, NotPlanned}
-use Rattle.lookup.specs.declared.Spot.{Spot}
-use Rattle.lookup.specs.declared.Spot.TheVariants.{Held, Missing}
-use Rattle.lookup.specs.Seats.{seat_at}
+use Rattle.lookup.specs.Seats.{here, seat_at}
 use Rattle.lookup.specs.Find.{find_at}
 use Rattle.lookup.proofs.Laws.{seat_law, absent_law, Standing, standing}
 use Rattle.lookup.proofs.Halving.{held_law, missing_law}
@@ -40,11 +38,11 @@ use Rattle.actor.proofs.Rooms.{room_law}
 -- ---- registration
 
 -- the two ways of a request's own tests
-pub own_refused : (q : Request) (spot : Spot) → is_done (own_fault true q) ≡ false → seat_fault q spot ≡ own_fault true q
+pub own_refused : (q : Request) (spot : Result ℕ ℕ) → is_done (own_fault true q) ≡ false → seat_fault q spot ≡ own_fault true q
 unfolding seat_fault
 own_refused q spot d = simp d
 
-pub own_passed : (q : Request) (spot : Spot) → is_done (own_fault true q) ≡ true → seat_fault q spot ≡ spot_fault spot
+pub own_passed : (q : Request) (spot : Result ℕ ℕ) → is_done (own_fault true q) ≡ true → seat_fault q spot ≡ spot_fault spot
 unfolding seat_fault
 own_passed q spot d = simp d
 
@@ -61,26 +59,26 @@ not_done o (station e) = ap is_done e
 
 module _ (m : List ℕ) (o : Octets m) (w : well_formed m ≡ true) (q : Request) where
   -- The plan has no such station: 11 or 12.
-  pub register_absent : seat_at m q.ca ≡ NotPlanned → Replies (registering q) m (placeless (own_fault false q)) m
+  pub register_absent : seat_at m q.ca ≡ None → Replies (registering q) m (placeless (own_fault false q)) m
   unfolding registering request_outcome is_planned
   register_absent e =
       let s : station_of q.ca (table_of m).stations ≡ none = absent_law m q.ca e in
       let d : is_done (own_fault false q) ≡ false = not_done _ (unplanned q) in
       refused_by (registering q) m w (own_fault false q) (ap (request_outcome (table_of m) q) s ∙ simp d) refl d
 
-  module _ (i first h : ℕ) (e : seat_at m q.ca ≡ Here i first h) where
+  module _ (i first h : ℕ) (e : seat_at m q.ca ≡ here i first h) where
     -- 17 as the code finds it
     spot_law : spot_fault (find_at m first h q.ioa) ≡ registered_fault q (some (seat_law m q.ca i first h o w e).seat.s)
     unfolding is_registered
     spot_law = by_spot (find_at m first h q.ioa) refl
       where
-        by_spot : (x : Spot) → find_at m first h q.ioa ≡ x → spot_fault x ≡ registered_fault q (some (seat_law m q.ca i first h o w e).seat.s)
-        by_spot (Held at) p =
+        by_spot : (x : Result ℕ ℕ) → find_at m first h q.ioa ≡ x → spot_fault x ≡ registered_fault q (some (seat_law m q.ca i first h o w e).seat.s)
+        by_spot (Ok at) p =
             let z = seat_law m q.ca i first h o w e in
             let k : known q.ioa z.seat.s.points ≡ true =
             ap (known q.ioa) (sym z.points) ∙ (held_law m first h q.ioa at (rw z.points z.rises) p).is_known in
             simp k
-        by_spot (Missing at) p =
+        by_spot (Err at) p =
             let z = seat_law m q.ca i first h o w e in
             let k : known q.ioa z.seat.s.points ≡ false =
             ap (known q.ioa) (sym z.points) ∙ (missing_law m first h q.ioa at (rw z.points z.rises) p).not_known in
@@ -122,10 +120,10 @@ module _ (m : List ℕ) (o : Octets m) (w : well_formed m ≡ true) (q : Request
     unfolding seat_fault
     goes d = by_spot (find_at m first h q.ioa) refl (first_done (own_fault true q) (spot_fault (find_at m first h q.ioa)) (done_is (seat_fault q (find_at m first h q.ioa)) d)).1
       where
-        by_spot : (x : Spot) → find_at m first h q.ioa ≡ x → spot_fault x ≡ Done
+        by_spot : (x : Result ℕ ℕ) → find_at m first h q.ioa ≡ x → spot_fault x ≡ Done
             → Standing (table_of m).stations q.ca (point_of q).ioa (seat_law m q.ca i first h o w e).seat.s (seat_law m q.ca i first h o w e).seat.found i h (offset_of x)
-        by_spot (Held at) p f = not_both (ap is_done f)
-        by_spot (Missing at) p f =
+        by_spot (Ok at) p f = not_both (ap is_done f)
+        by_spot (Err at) p f =
             let z = seat_law m q.ca i first h o w e in
             let k = (missing_law m first h q.ioa at (rw z.points z.rises) p).place in
             standing (table_of m).stations q.ca (point_of q).ioa i first h at z.seat

@@ -17,13 +17,12 @@ use Rattle.table.proofs.Parse.{holds}
 use Rattle.table.proofs.Shares.{total_held, total_unmet}
 use Rattle.table.proofs.Stations.{sum_unmet}
 use Rattle.wellformed.proofs.Shares.{share_law}
-use Rattle.lookup.specs.declared.Seat.TheVariants.{Here}
-use Rattle.lookup.specs.Seats.{seat_at}
+use Rattle.lookup.specs.Seats.{here, seat_at}
 use Rattle.lookup.proofs.Laws.{seat_law}
 use Rattle.registry.specs.Registry.{admission_outcome, room_fault}
 use Rattle.actor.specs.Actor.{share_here, free_in, unmet_in, room_at}
 
-module _ (m : List ℕ) (o : Octets m) (w : well_formed m ≡ true) (ca i first h : ℕ) (e : seat_at m ca ≡ Here i first h) where
+module _ (m : List ℕ) (o : Octets m) (w : well_formed m ≡ true) (ca i first h : ℕ) (e : seat_at m ca ≡ here i first h) where
   -- The station's octets are its share.
   pub station_share : share_here m i ≡ share_of (seat_law m ca i first h o w e).seat.s
   station_share =

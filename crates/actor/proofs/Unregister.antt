@@ -1,4 +1,5 @@
 -- Removal of one point and of all, and a station's share, as the code goes: each way out gives what the definition says. Assumes nothing.
+use Rattle.std.specs.Prelude.{Err, None, Ok}
 use mathlib.Core.Path.{◌≡◌, refl, sym, ap, ◌∙◌}
 use mathlib.Core.List.{List}
 use mathlib.Core.Bool.{true, false}
@@ -9,9 +10,7 @@ use Rattle.layout.specs.Layout.{points_in}
 use Rattle.table.specs.Memory.{table_of, well_formed}
 use Rattle.table.specs.Change.{station_of, known}
 use Rattle.table.proofs.Parse.{parse_some, parse_none}
-use Rattle.lookup.specs.declared.Seat.TheVariants.{Here, NotPlanned}
-use Rattle.lookup.specs.declared.Spot.TheVariants.{Held, Missing}
-use Rattle.lookup.specs.Seats.{seat_at}
+use Rattle.lookup.specs.Seats.{here, seat_at}
 use Rattle.lookup.specs.Find.{find_at}
 use Rattle.lookup.proofs.Laws.{seat_law, absent_law}
 use Rattle.lookup.proofs.Halving.{missing_law}
@@ -35,13 +34,13 @@ module _ (m : List ℕ) (w : well_formed m ≡ true) (ca ioa : ℕ) where
       refused_by (unregistering ca ioa) m w NotRegistered (ap (λ (x : Effect). x.outcome) u) (ap (λ (x : Effect). x.place) u) refl
 
   -- The plan has no such station: 18.
-  pub out_absent : seat_at m ca ≡ NotPlanned → Replies (unregistering ca ioa) m (placeless NotRegistered) m
+  pub out_absent : seat_at m ca ≡ None → Replies (unregistering ca ioa) m (placeless NotRegistered) m
   unfolding is_registered
   out_absent e = out_refused (ap (is_registered ioa) (absent_law m ca e))
 
-  module _ (o : Octets m) (i first h : ℕ) (e : seat_at m ca ≡ Here i first h) where
+  module _ (o : Octets m) (i first h : ℕ) (e : seat_at m ca ≡ here i first h) where
     -- The station has no such point: 18.
-    pub out_missing : (at : ℕ) → find_at m first h ioa ≡ Missing at → Replies (unregistering ca ioa) m (placeless NotRegistered) m
+    pub out_missing : (at : ℕ) → find_at m first h ioa ≡ Err at → Replies (unregistering ca ioa) m (placeless NotRegistered) m
     unfolding is_registered
     out_missing at p =
         let z = seat_law m ca i first h o w e in
@@ -49,7 +48,7 @@ module _ (m : List ℕ) (w : well_formed m ≡ true) (ca ioa : ℕ) where
         out_refused (ap (is_registered ioa) z.seat.is_station ∙ k)
 
     -- Done: the point is gone.
-    pub out_done : (at : ℕ) → find_at m first h ioa ≡ Held at → Replies (unregistering ca ioa) m (placeless Done) (taken_out m i h at)
+    pub out_done : (at : ℕ) → find_at m first h ioa ≡ Ok at → Replies (unregistering ca ioa) m (placeless Done) (taken_out m i h at)
     unfolding unregistering is_registered
     out_done at p =
         let z = take_out_law m ca ioa i first h at o w e p in
@@ -70,11 +69,11 @@ unfolding share_from
 share_no_table m ca w = sym (ap (share_from ca) (parse_none m w))
 
 module _ (m : List ℕ) (w : well_formed m ≡ true) (ca : ℕ) where
-  pub share_absent : seat_at m ca ≡ NotPlanned → no_share StationNotPlanned ≡ share_on ca m
+  pub share_absent : seat_at m ca ≡ None → no_share StationNotPlanned ≡ share_on ca m
   unfolding share_from share_in
   share_absent e = sym (ap (share_from ca) (parse_some m w) ∙ ap (share_in (table_of m)) (absent_law m ca e))
 
-  pub share_found : (o : Octets m) (i first h : ℕ) → seat_at m ca ≡ Here i first h → station_share_at m i ≡ share_on ca m
+  pub share_found : (o : Octets m) (i first h : ℕ) → seat_at m ca ≡ here i first h → station_share_at m i ≡ share_on ca m
   unfolding station_share_at share_from share_in
   share_found o i first h e =
       let z = seat_law m ca i first h o w e in

@@ -1,5 +1,5 @@
 -- ---- as the code reads: nobody need believe what follows, the laws in proofs/ tie it to the effects of `registry`
-use Rattle.std.specs.Prelude.{ℕ, ◌+◌, ◌*◌, ◌-◌, ◌≤◌, ◌<◌, List, true, length}
+use Rattle.std.specs.Prelude.{ℕ, ◌+◌, ◌*◌, ◌-◌, ◌≤◌, ◌<◌, List, true, length, Err, Ok, Result}
 use Rattle.limits.specs.Share.{admission_of}
 use Rattle.limits.specs.declared.share.Share.{Share}
 use Rattle.limits.specs.declared.outcome.Outcome.{Outcome}
@@ -9,8 +9,6 @@ use Rattle.model.specs.declared.Request.{Request}
 use Rattle.model.specs.Request.{own_fault}
 use Rattle.table.specs.Memory.{sum_at, unmet_at}
 use Rattle.wellformed.specs.Station.{share_at}
-use Rattle.lookup.specs.declared.Spot.{Spot}
-use Rattle.lookup.specs.declared.Spot.TheVariants.{Held, Missing}
 use Rattle.registry.specs.Registry.{admission_outcome}
 use Rattle.registry.specs.Effect.{first_fault}
 use Rattle.registry.specs.declared.StationShare.{StationShare}
@@ -35,17 +33,17 @@ unfoldable pub room_at : List ℕ → ℕ → Outcome
 room_at m i = admission_outcome (admission_of (share_here m i) (free_in m) (unmet_in m))
 
 -- 17 where a point stands at the address
-abbrev pub spot_fault : Spot → Outcome
-spot_fault (Held at) = AlreadyRegistered
-spot_fault (Missing at) = Done
+abbrev pub spot_fault : Result ℕ ℕ → Outcome
+spot_fault (Ok at) = AlreadyRegistered
+spot_fault (Err at) = Done
 
 -- where a point stands or would go
-abbrev pub offset_of : Spot → ℕ
-offset_of (Held at) = at
-offset_of (Missing at) = at
+abbrev pub offset_of : Result ℕ ℕ → ℕ
+offset_of (Ok at) = at
+offset_of (Err at) = at
 
 -- the tests of a request whose station is planned, but for room
-unfoldable pub seat_fault : Request → Spot → Outcome
+unfoldable pub seat_fault : Request → Result ℕ ℕ → Outcome
 seat_fault q spot = first_fault (own_fault true q) (spot_fault spot)
 
 -- the share of the station of index i

@@ -2,7 +2,7 @@
 // Every entry tests everything itself: any octets may be lent as the table, and any numbers be given.
 #![tactic(auto)]
 
-ghost use Rattle.std.specs.Prelude.{◌≡◌, true};
+ghost use Rattle.std.specs.Prelude.{◌≡◌, true, Some};
 ghost use Rattle.table.specs.Memory.{well_formed};
 ghost use Rattle.lookup.specs.Seats.{seat_at};
 ghost use Rattle.replies.specs.Replies.{Replies};
@@ -12,7 +12,7 @@ ghost use Rattle.actor.specs.Actor.{HasStation, room_at, seat_fault, offset_of, 
 use layout::{HEAD_SIZE, PLACE_SIZE};
 use limits::outcome::Outcome;
 use limits::share::Share;
-use lookup::{Seat, Spot};
+use lookup::Seat;
 use model::Request;
 use registry::{Reply, StationShare};
 use replies::reply_of;
@@ -53,7 +53,7 @@ fn room_at(m: &[u8], i: usize) -> Outcome
 }
 
 // The tests 11 and 13 to 15 of a request whose station is planned, and 17: has its address a point already?
-fn seat_fault(q: Request, spot: Spot) -> Outcome
+fn seat_fault(q: Request, spot: Result<usize, usize>) -> Outcome
     ensures { result ≡ seat_fault q spot }
 {
     let own = model::own_fault(true, q);
@@ -61,32 +61,31 @@ fn seat_fault(q: Request, spot: Spot) -> Outcome
         return own;
     }
     match spot {
-        Spot::Held(_) => Outcome::AlreadyRegistered,
-        Spot::Missing(_) => Outcome::Done,
+        Ok(_) => Outcome::AlreadyRegistered,
+        Err(_) => Outcome::Done,
     }
 }
 
 // Where a point stands or would go.
-fn offset_of(spot: Spot) -> usize
+fn offset_of(spot: Result<usize, usize>) -> usize
     ensures { result ≡ offset_of spot }
 {
     match spot {
-        Spot::Held(at) => at,
-        Spot::Missing(at) => at,
+        Ok(at) | Err(at) => at,
     }
 }
 
 // Registers a point of a planned station, whose seat was found in a well-formed table.
-fn register_here(table: &mut [u8], q: Request, i: usize, first: usize, h: usize) -> Reply
-    requires { (well_formed table.old ≡ true) × (seat_at table.old q.ca ≡ Seat.Here i first h) }
+fn register_here(table: &mut [u8], q: Request, seat: Seat) -> Reply
+    requires { (well_formed table.old ≡ true) × (seat_at table.old q.ca ≡ Some seat) }
     ensures { Replies (registering q) table.old result table.new }
 {
-    let spot = lookup::find(table, first, h, q.ioa as usize);
+    let spot = lookup::find(table, seat.first, seat.held, q.ioa as usize);
     let own = seat_fault(q, spot);
     if !own.is_done() {
         return reply_of(own);
     }
-    let room = room_at(table, i);
+    let room = room_at(table, seat.index);
     if !room.is_done() {
         return reply_of(room);
     }
@@ -94,8 +93,8 @@ fn register_here(table: &mut [u8], q: Request, i: usize, first: usize, h: usize)
         table,
         q.ca as usize,
         model::point_of(q),
-        i,
-        h,
+        seat.index,
+        seat.held,
         offset_of(spot),
     );
     reply_of(Outcome::Done)
@@ -108,10 +107,10 @@ pub fn register_point(table: &mut [u8], q: Request) -> Reply
     if !wellformed::well_formed(table) {
         return reply_of(Outcome::TableNotWellFormed);
     }
-    let Seat::Here(i, first, h) = lookup::seat_at(table, q.ca as usize) else {
+    let Some(seat) = lookup::seat_at(table, q.ca as usize) else {
         return reply_of(model::own_fault(false, q));
     };
-    register_here(table, q, i, first, h)
+    register_here(table, q, seat)
 }
 
 // Removes one point: 3, then 18; with 0 its room is free at once.
@@ -121,13 +120,13 @@ pub fn unregister_point(table: &mut [u8], ca: u16, ioa: u32) -> Reply
     if !wellformed::well_formed(table) {
         return reply_of(Outcome::TableNotWellFormed);
     }
-    let Seat::Here(i, first, h) = lookup::seat_at(table, ca as usize) else {
+    let Some(seat) = lookup::seat_at(table, ca as usize) else {
         return reply_of(Outcome::NotRegistered);
     };
-    let Spot::Held(at) = lookup::find(table, first, h, ioa as usize) else {
+    let Ok(at) = lookup::find(table, seat.first, seat.held, ioa as usize) else {
         return reply_of(Outcome::NotRegistered);
     };
-    remove::take_out(table, i, h, at);
+    remove::take_out(table, seat.index, seat.held, at);
     reply_of(Outcome::Done)
 }
 
@@ -166,8 +165,8 @@ pub fn station_share(table: &[u8], ca: u16) -> StationShare
     if !wellformed::well_formed(table) {
         return no_share(Outcome::TableNotWellFormed);
     }
-    let Seat::Here(i, _, _) = lookup::seat_at(table, ca as usize) else {
+    let Some(seat) = lookup::seat_at(table, ca as usize) else {
         return no_share(Outcome::StationNotPlanned);
     };
-    share_here(table, i)
+    share_here(table, seat.index)
 }

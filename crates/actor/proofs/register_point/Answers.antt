@@ -43,7 +43,7 @@ register_here-requires c =
     let a = c.args in
     let m = a.table.now in
     let w : well_formed m ≡ true = sym c.well_formed-2.ensures ∙ c.if-not-well_formed.false in
-    (w, sym c.seat_at.ensures ∙ c.in-Here.is)
+    (w, sym c.seat_at.ensures ∙ c.in-Some.is)
 
 pub returns : goal.returns
 returns c =

@@ -13,14 +13,14 @@ returns-then-not-is_done c =
     let d : is_done (own_fault true a.q) ≡ false = ap is_done (sym c.own_fault-own.ensures) ∙ sym c.is_done.ensures ∙ c.if-not-is_done.true in
     c.own_fault-own.ensures ∙ sym (own_refused a.q a.spot d)
 
-pub returns-in-Held : goal.returns-in-Held
-returns-in-Held c =
+pub returns-in-Ok : goal.returns-in-Ok
+returns-in-Ok c =
     let a = c.args in
     let d : is_done (own_fault true a.q) ≡ true = ap is_done (sym c.own_fault-own.ensures) ∙ sym c.is_done.ensures ∙ c.if-not-is_done.false in
-    sym (own_passed a.q a.spot d ∙ ap spot_fault c.in-Held.is)
+    sym (own_passed a.q a.spot d ∙ ap spot_fault c.in-Ok.is)
 
-pub returns-in-Missing : goal.returns-in-Missing
-returns-in-Missing c =
+pub returns-in-Err : goal.returns-in-Err
+returns-in-Err c =
     let a = c.args in
     let d : is_done (own_fault true a.q) ≡ true = ap is_done (sym c.own_fault-own.ensures) ∙ sym c.is_done.ensures ∙ c.if-not-is_done.false in
-    sym (own_passed a.q a.spot d ∙ ap spot_fault c.in-Missing.is)
+    sym (own_passed a.q a.spot d ∙ ap spot_fault c.in-Err.is)

@@ -39,7 +39,7 @@ share_here-requires c =
     let m = a.table.now in
     let w : well_formed m ≡ true = sym c.well_formed-2.ensures ∙ c.if-not-well_formed.false in
     let o : Octets m = λ k. omega (arith, c.shared_slice_known-1.given k) in
-    let s = sym c.seat_at.ensures ∙ c.in-Here.is in
+    let s = sym c.seat_at.ensures ∙ c.in-Some.is in
     let z = seat_law m a.ca _ _ _ o w s in
     let i = z.stations in
     let q = passed m w in
@@ -54,5 +54,5 @@ returns c =
     let m = a.table.now in
     let w : well_formed m ≡ true = sym c.well_formed-2.ensures ∙ c.if-not-well_formed.false in
     let o : Octets m = λ k. omega (arith, c.shared_slice_known-1.given k) in
-    let s = sym c.seat_at.ensures ∙ c.in-Here.is in
+    let s = sym c.seat_at.ensures ∙ c.in-Some.is in
     c.share_here.ensures ∙ share_found m w a.ca o _ _ _ s

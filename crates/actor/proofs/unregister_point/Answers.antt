@@ -44,7 +44,7 @@ find-requires c =
     let m = a.table.now in
     let w : well_formed m ≡ true = sym c.well_formed-2.ensures ∙ c.if-not-well_formed.false in
     let o : Octets m = λ k. omega (arith, c.slice_known-1.given k) in
-    let s = sym c.seat_at.ensures ∙ c.in-Here.is in
+    let s = sym c.seat_at.ensures ∙ c.in-Some.is in
     let z = seat_law m a.ca _ _ _ o w s in
     let places = z.places in
     let q = passed m w in
@@ -58,7 +58,7 @@ returns-in_default-find c =
     let m = a.table.now in
     let w : well_formed m ≡ true = sym c.well_formed-2.ensures ∙ c.if-not-well_formed.false in
     let o : Octets m = λ k. omega (arith, c.slice_known-1.given k) in
-    let s = sym c.seat_at.ensures ∙ c.in-Here.is in
+    let s = sym c.seat_at.ensures ∙ c.in-Some.is in
     let z = out_missing m w a.ca a.ioa o _ _ _ s _ (sym c.find.ensures ∙ c.in_default-find.is) in
     (c.reply_of-in_default-find.ensures ∙ z.0, z.1)
 
@@ -68,8 +68,8 @@ take_out-requires c =
     let m = a.table.now in
     let w : well_formed m ≡ true = sym c.well_formed-2.ensures ∙ c.if-not-well_formed.false in
     let o : Octets m = λ k. omega (arith, c.slice_known-1.given k) in
-    let s = sym c.seat_at.ensures ∙ c.in-Here.is in
-    let b = (take_out_law m a.ca a.ioa _ _ _ _ o w s (sym c.find.ensures ∙ c.in-Held.is)).bounds in
+    let s = sym c.seat_at.ensures ∙ c.in-Some.is in
+    let b = (take_out_law m a.ca a.ioa _ _ _ _ o w s (sym c.find.ensures ∙ c.in-Ok.is)).bounds in
     b
 
 pub returns : goal.returns
@@ -78,6 +78,6 @@ returns c =
     let m = a.table.now in
     let w : well_formed m ≡ true = sym c.well_formed-2.ensures ∙ c.if-not-well_formed.false in
     let o : Octets m = λ k. omega (arith, c.slice_known-1.given k) in
-    let s = sym c.seat_at.ensures ∙ c.in-Here.is in
-    let z = out_done m w a.ca a.ioa o _ _ _ s _ (sym c.find.ensures ∙ c.in-Held.is) in
+    let s = sym c.seat_at.ensures ∙ c.in-Some.is in
+    let z = out_done m w a.ca a.ioa o _ _ _ s _ (sym c.find.ensures ∙ c.in-Ok.is) in
     (c.reply_of-2.ensures ∙ z.0, c.take_out.ensures ∙ z.1)
