@@ -1,4 +1,5 @@
 -- The tests 11 to 17 of one record, case by case, and the turns of a batch's own tests. Assumes nothing.
+use Rattle.std.specs.Prelude.{Ok, Err, is_ok}
 use mathlib.Core.Path.{◌≡◌, refl, sym, ap, ◌∙◌}
 use mathlib.Core.List.{List, []}
 use mathlib.Core.Bool.{Bool, true, false}
@@ -17,7 +18,6 @@ use Rattle.model.proofs.Requests.Unplanned.{unknown, station}
 use Rattle.table.specs.Table.{Station, Table, rising}
 use Rattle.table.specs.Memory.{points_at}
 use Rattle.table.specs.Change.{station_of, known, seek_in}
-use Rattle.lookup.specs.declared.Spot.TheVariants.{Held, Missing}
 use Rattle.lookup.specs.Find.{spot_in, find_at}
 use Rattle.lookup.proofs.Laws.{Seen}
 use Rattle.lookup.proofs.Halving.{find_law}
@@ -25,7 +25,6 @@ use Rattle.registry.specs.Effect.{first_fault}
 use Rattle.registry.specs.Registry.{is_planned, is_registered, registered_fault, stands_in, batch_fault, own_tests}
 use Rattle.batch_records.specs.Records.{requests_in, earlier_at}
 use Rattle.batch_records.proofs.Laws.{requests_on, requests_end, earlier_on}
-use Rattle.batch_tests.specs.Tests.{is_held}
 
 -- ---- one record
 
@@ -68,13 +67,13 @@ module _ (t : Table) (earlier : List Request) (q : Request) (s : Station) (e : s
     fault_none f k = sym (with_station ∙ simp (d, f, k))
 
 -- What is found at a seat is what the station knows.
-pub held_known : (m : List ℕ) (ca i first h ioa : ℕ) (w : Seen m ca i first h) → is_held (find_at m first h ioa) ≡ known ioa w.seat.s.points
+pub held_known : (m : List ℕ) (ca i first h ioa : ℕ) (w : Seen m ca i first h) → is_ok (find_at m first h ioa) ≡ known ioa w.seat.s.points
 unfolding spot_in
 held_known m ca i first h ioa w =
     let ps = points_at m first h in
-    ap is_held (find_law m first h ioa (ap (rising 0) w.points ∙ w.rises)) ∙ by_test (known ioa ps) (seek_in ioa ps) ∙ ap (known ioa) w.points
+    ap is_ok (find_law m first h ioa (ap (rising 0) w.points ∙ w.rises)) ∙ by_test (known ioa ps) (seek_in ioa ps) ∙ ap (known ioa) w.points
   where
-    by_test : (b : Bool) (j : ℕ) → is_held (pick b (Held (first + 48 * j)) (Missing (first + 48 * j))) ≡ b
+    by_test : (b : Bool) (j : ℕ) → is_ok (pick b (Ok (first + 48 * j)) (Err (first + 48 * j))) ≡ b
     by_test true j = refl
     by_test false j = refl
 

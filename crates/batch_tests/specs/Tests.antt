@@ -1,14 +1,7 @@
--- How the code looks a point up and an address among the earlier ones: the tests themselves are `batch_fault` and `own_tests` of crate registry.
-use Rattle.std.specs.Prelude.{ℕ, ◌+◌, ◌*◌, ◌%◌, List, Bool, true, false}
+-- How the code looks an address up among the earlier ones: the tests themselves are `batch_fault` and `own_tests` of crate registry.
+use Rattle.std.specs.Prelude.{ℕ, ◌+◌, ◌*◌, ◌%◌, List, Bool}
 use Rattle.octets.specs.Number.{two, four}
 use Rattle.batch_records.specs.Records.{record_octets, ioa_in_record, stands_before}
-use Rattle.lookup.specs.declared.Spot.{Spot}
-use Rattle.lookup.specs.declared.Spot.TheVariants.{Held, Missing}
-
--- Was the point found?
-abbrev pub is_held : Spot → Bool
-is_held (Held at) = true
-is_held (Missing at) = false
 
 -- How many flags there are for the addresses passed.
 abbrev pub flag_count : ℕ

@@ -1,7 +1,7 @@
 // The tests 11 to 17 of a batch's points, in list order. The table is only read.
 #![tactic(auto)]
 
-ghost use Rattle.std.specs.Prelude.{◌≡◌, true, false, [], ◌+◌, ◌*◌, ◌/◌, ◌≤◌, ◌<◌, length};
+ghost use Rattle.std.specs.Prelude.{◌≡◌, true, false, [], ◌+◌, ◌*◌, ◌/◌, ◌≤◌, ◌<◌, length, is_ok};
 ghost use Rattle.limits.specs.Test.{pick};
 ghost use Rattle.merging.specs.Merge.{Differ};
 ghost use Rattle.layout.specs.Layout.{place_size};
@@ -10,11 +10,10 @@ ghost use Rattle.table.specs.Memory.{well_formed, table_of};
 ghost use Rattle.lookup.specs.Find.{find_at};
 ghost use Rattle.batch_records.specs.Records.{record_octets, records_in, requests_in, earlier_at, stands_before};
 ghost use Rattle.registry.specs.Registry.{batch_fault, own_tests};
-ghost use Rattle.batch_tests.specs.Tests.{flag_count, is_held, address_flag, flag_at, comes_again};
+ghost use Rattle.batch_tests.specs.Tests.{flag_count, address_flag, flag_at, comes_again};
 
 use batch_records::{IOA_IN_RECORD, RECORD_OCTETS};
 use limits::outcome::Outcome;
-use lookup::{Seat, Spot};
 use registry::Reply;
 
 // How many flags there are for the addresses passed.
@@ -23,13 +22,9 @@ const FLAGS: usize = 16384;
 // Is there a point with the IOA among the n places from `first`?
 fn is_held(m: &[u8], first: usize, n: usize, ioa: usize) -> bool
     requires { first + place_size * n ≤ length m.now }
-    ensures { result ≡ is_held (find_at m.now first n ioa) }
+    ensures { result ≡ is_ok (find_at m.now first n ioa) }
 {
-    let spot = lookup::find(m, first, n, ioa);
-    match spot {
-        Spot::Held(_) => true,
-        Spot::Missing(_) => false,
-    }
+    lookup::find(m, first, n, ioa).is_ok()
 }
 
 // The flag of an address. Any number would be right; with this one stations that have the same IOAs do not share flags.
@@ -80,8 +75,7 @@ fn fault_at(m: &[u8], records: &[u8], i: usize, flag: u8) -> Outcome
     let request = model::request_at(records, at);
     let ca = octets::two_at(records, at);
     let ioa = octets::four_at(records, at + IOA_IN_RECORD);
-    let seat = lookup::seat_at(m, ca);
-    let Seat::Here(_, first, held) = seat else {
+    let Some(seat) = lookup::seat_at(m, ca) else {
         return model::own_fault(false, request);
     };
     let own = model::own_fault(true, request);
@@ -91,7 +85,7 @@ fn fault_at(m: &[u8], records: &[u8], i: usize, flag: u8) -> Outcome
     if stands_flagged(records, ca, ioa, i, flag) {
         return Outcome::AddressTwice;
     }
-    if is_held(m, first, held, ioa) {
+    if is_held(m, seat.first, seat.held, ioa) {
         return Outcome::AlreadyRegistered;
     }
     Outcome::Done

@@ -1,4 +1,5 @@
 -- One record's tests: the seat says which station it is, and each way out is one case of `batch_fault`. Assumes nothing.
+use Rattle.std.specs.Prelude.{None, is_ok}
 use native.Mathlib.Omega.{arith}
 use mathlib.Core.Path.{◌≡◌, sym, ap, ap₂, ◌∙◌}
 use mathlib.Core.Bool.{true, false}
@@ -10,24 +11,22 @@ use Rattle.table.specs.Memory.{table_of}
 use Rattle.table.specs.Change.{known}
 use Rattle.table.proofs.Parse.{passed}
 use Rattle.lookup.specs.Seats.{seat_at}
-use Rattle.lookup.specs.declared.Seat.TheVariants.{NotPlanned}
 use Rattle.lookup.specs.Find.{find_at}
 use Rattle.lookup.proofs.Laws.{Seen, seat_law, absent_law}
 use Rattle.registry.specs.Registry.{stands_in}
 use Rattle.batch_records.specs.Records.{earlier_at, stands_before}
 use Rattle.batch_records.proofs.Laws.{stands_law}
-use Rattle.batch_tests.specs.Tests.{is_held}
 use Rattle.batch_tests.proofs.Laws.{fault_unplanned, fault_own, fault_twice, fault_known, fault_none, held_known}
 use Rattle.batch_tests.proofs.fault_at.Goals as goal
-use Rattle.batch_tests.proofs.fault_at.Goals.{After-is_done, After-is_held, After-own_fault-own, After-stands_flagged, In-Here}
+use Rattle.batch_tests.proofs.fault_at.Goals.{After-is_done, After-is_held, After-own_fault-own, After-stands_flagged, In-Some}
 
 -- the station's seat
-seen : (c : In-Here) →
-    Seen c.args.m.now (request_at c.args.records.now (24 * c.args.i)).ca c.in-Here.field-0 c.in-Here.first c.in-Here.held
+seen : (c : In-Some) →
+    Seen c.args.m.now (request_at c.args.records.now (24 * c.args.i)).ca c.in-Some.seat.index c.in-Some.seat.first c.in-Some.seat.held
 seen c =
     let m = c.args.m.now in
     let o : Octets m = λ j. omega (arith, c.shared_slice_known-1.given j) in
-    seat_law m _ _ _ _ o c.requires.0 (ap (seat_at m) (sym c.two_at-ca.ensures.0) ∙ sym c.seat_at-seat.ensures ∙ c.in-Here.is)
+    seat_law m _ _ _ _ o c.requires.0 (ap (seat_at m) (sym c.two_at-ca.ensures.0) ∙ sym c.seat_at.ensures ∙ c.in-Some.is)
 
 -- the tests of the record alone
 own : (c : After-own_fault-own) → c.own_fault-own.result ≡ own_fault true (request_at c.args.records.now (24 * c.args.i))
@@ -45,14 +44,14 @@ stands c =
     stands_law r (request_at c.args.records.now (24 * c.args.i)) c.args.i ∙ ap₂ (λ (x y : ℕ). stands_before r x y c.args.i) (sym c.two_at-ca.ensures.0) (sym c.four_at-ioa.ensures.0) ∙ sym c.stands_flagged.ensures
 
 -- whether the station holds its address
-holds : (c : After-is_held) (z : Seen c.args.m.now (request_at c.args.records.now (24 * c.args.i)).ca c.in-Here.field-0 c.in-Here.first c.in-Here.held) →
+holds : (c : After-is_held) (z : Seen c.args.m.now (request_at c.args.records.now (24 * c.args.i)).ca c.in-Some.seat.index c.in-Some.seat.first c.in-Some.seat.held) →
     known (request_at c.args.records.now (24 * c.args.i)).ioa z.seat.s.points ≡ c.is_held.result
 holds c z =
     sym (held_known c.args.m.now _ _ _ _ (request_at c.args.records.now (24 * c.args.i)).ioa z)
-    ∙ ap (λ (x : ℕ). is_held (find_at c.args.m.now c.in-Here.first c.in-Here.held x)) (sym c.four_at-ioa.ensures.0) ∙ sym c.is_held.ensures
+    ∙ ap (λ (x : ℕ). is_ok (find_at c.args.m.now c.in-Some.seat.first c.in-Some.seat.held x)) (sym c.four_at-ioa.ensures.0) ∙ sym c.is_held.ensures
 
-pub seat_at-seat-requires : goal.seat_at-seat-requires
-seat_at-seat-requires c =
+pub seat_at-requires : goal.seat_at-requires
+seat_at-requires c =
     let p = (passed c.args.m.now c.requires.0).top in
     (p.s_high, p.room)
 
@@ -60,12 +59,12 @@ pub returns-in_default : goal.returns-in_default
 returns-in_default c =
     let m = c.args.m.now in
     let q = (request_at c.args.records.now (24 * c.args.i)) in
-    let none-there : seat_at m q.ca ≡ NotPlanned = ap (seat_at m) (sym c.two_at-ca.ensures.0) ∙ sym c.seat_at-seat.ensures ∙ c.in_default.is in
+    let none-there : seat_at m q.ca ≡ None = ap (seat_at m) (sym c.two_at-ca.ensures.0) ∙ sym c.seat_at.ensures ∙ c.in_default.is in
     c.own_fault.ensures ∙ ap (own_fault false) c.request_at-request.ensures ∙ fault_unplanned (table_of m) (earlier_at c.args.records.now c.args.i) q (absent_law m q.ca none-there)
 
 pub returns-then-not-is_done : goal.returns-then-not-is_done
 returns-then-not-is_done c =
-    let z = seen (goal.at.returns-then-not-is_done c).In-Here in
+    let z = seen (goal.at.returns-then-not-is_done c).In-Some in
     let s = z.seat in
     own (goal.at.returns-then-not-is_done c).After-own_fault-own ∙ fault_own (table_of c.args.m.now) (earlier_at c.args.records.now c.args.i) (request_at c.args.records.now (24 * c.args.i)) s.s s.is_station (own_done (goal.at.returns-then-not-is_done c).After-is_done ∙ c.if-not-is_done.true)
 
@@ -75,7 +74,7 @@ stands_flagged-requires c =
 
 pub returns-then-stands_flagged : goal.returns-then-stands_flagged
 returns-then-stands_flagged c =
-    let z = seen (goal.at.returns-then-stands_flagged c).In-Here in
+    let z = seen (goal.at.returns-then-stands_flagged c).In-Some in
     let s = z.seat in
     fault_twice (table_of c.args.m.now) (earlier_at c.args.records.now c.args.i) (request_at c.args.records.now (24 * c.args.i)) s.s s.is_station (own_done (goal.at.returns-then-stands_flagged c).After-is_done ∙ c.if-not-is_done.false) (stands (goal.at.returns-then-stands_flagged c).After-stands_flagged ∙ c.if-stands_flagged.true)
 
@@ -84,17 +83,17 @@ is_held-requires c =
     let p = passed c.args.m.now c.requires.0 in
     let few = p.few in
     let room = p.top.room in
-    let places = (seen (goal.at.is_held-requires c).In-Here).places in
+    let places = (seen (goal.at.is_held-requires c).In-Some).places in
     omega arith
 
 pub returns-then-is_held : goal.returns-then-is_held
 returns-then-is_held c =
-    let z = seen (goal.at.returns-then-is_held c).In-Here in
+    let z = seen (goal.at.returns-then-is_held c).In-Some in
     let s = z.seat in
     fault_known (table_of c.args.m.now) (earlier_at c.args.records.now c.args.i) (request_at c.args.records.now (24 * c.args.i)) s.s s.is_station (own_done (goal.at.returns-then-is_held c).After-is_done ∙ c.if-not-is_done.false) (stands (goal.at.returns-then-is_held c).After-stands_flagged ∙ c.if-stands_flagged.false) (holds (goal.at.returns-then-is_held c).After-is_held z ∙ c.if-is_held.true)
 
 pub returns : goal.returns
 returns c =
-    let z = seen (goal.at.returns c).In-Here in
+    let z = seen (goal.at.returns c).In-Some in
     let s = z.seat in
     fault_none (table_of c.args.m.now) (earlier_at c.args.records.now c.args.i) (request_at c.args.records.now (24 * c.args.i)) s.s s.is_station (own_done (goal.at.returns c).After-is_done ∙ c.if-not-is_done.false) (stands (goal.at.returns c).After-stands_flagged ∙ c.if-stands_flagged.false) (holds (goal.at.returns c).After-is_held z ∙ c.if-is_held.false)
