@@ -1,8 +1,9 @@
 -- The turns of a batch in memory are the turns of `room_tests`: what the stations hold, what is free and what is unmet go along. Assumes nothing.
+use Rattle.std.specs.Prelude.{Option, Some, None}
 use mathlib.Core.Path.{◌≡◌, refl, sym, ap, ◌∙◌}
 use mathlib.Core.List.{List, [], ◌∷◌, map}
 use mathlib.Core.Bool.{Bool, true, false}
-use mathlib.Core.Option.{Option, none, some}
+use mathlib.Core.Option.{none, some}
 use Prim.Native.Nat.{ℕ, zero, suc, ◌+◌, ◌*◌, ◌-◌, ◌≤◌, ◌<◌}
 use native.Mathlib.Omega.{arith}
 use lib.ListN.{length, get_or, set, replicate, length-set, length-replicate}
@@ -13,7 +14,7 @@ use Rattle.limits.specs.Outcome.{is_done}
 use Rattle.limits.specs.Share.{held_of, unmet_of, taken_in, admission_of}
 use Rattle.limits.specs.declared.share.Share.{Share}
 use Rattle.limits.specs.declared.outcome.Outcome.{Outcome}
-use Rattle.limits.specs.declared.outcome.Outcome.TheVariants.{Done, StationNotPlanned}
+use Rattle.limits.specs.declared.outcome.Outcome.TheVariants.{Done}
 use Rattle.limits.proofs.Outcomes.{done_is, not_both}
 use Rattle.limits.proofs.Shares.{unmet_is, admitted_only}
 use Rattle.octets.specs.Number.{two}
@@ -30,8 +31,8 @@ use Rattle.table.proofs.Shares.{total_held, total_unmet}
 use Rattle.table.proofs.Change.{station_found, stations_split, insert_length}
 use Rattle.table.proofs.Cut.{total_at}
 use Rattle.lookup.specs.declared.Seat.{Seat}
-use Rattle.lookup.specs.declared.Seat.TheVariants.{Here, NotPlanned}
-use Rattle.lookup.specs.Seats.{seat_in, seat_at}
+use Rattle.lookup.specs.Seats.{here, seat_in, seat_at}
+use Rattle.lookup.proofs.Laws.{same_numbers}
 use Rattle.registry.specs.declared.Reply.{Reply}
 use Rattle.registry.specs.Effect.{Effect, refused}
 use Rattle.registry.specs.Registry.{admission_outcome, room_fault, with_request, room_tests}
@@ -45,51 +46,25 @@ use Rattle.batch_room.proofs.Lines.{lines_at, lines_start, Asked, asked, not_ask
 -- ---- one turn in memory
 
 -- the index of a seat is below the number of stations
-pub seat_index : (m : List ℕ) (ca i pb sb n j first h : ℕ) → seat_in m ca i pb sb n ≡ Here j first h → j < i + n
+pub seat_index : (m : List ℕ) (ca i pb sb n j first h : ℕ) → seat_in m ca i pb sb n ≡ here j first h → j < i + n
 unfolding seat_in
 seat_index m ca i pb sb zero j first h e = let z : ◌≡◌ {A = ℕ} 0 1 = cc in absurd (omega arith)
 seat_index m ca i pb sb (suc n) j first h e =
     by_test (eqb (two m sb) ca) e (λ f. seat_index m ca (i + 1) (pb + 48 * two m (sb + 6)) (sb + 8) n j first h f)
   where
-    by_test : (t : Bool) → pick t (Here i pb (two m (sb + 6))) (seat_in m ca (i + 1) (pb + 48 * two m (sb + 6)) (sb + 8) n) ≡ Here j first h
-        → (seat_in m ca (i + 1) (pb + 48 * two m (sb + 6)) (sb + 8) n ≡ Here j first h → j < i + 1 + n) → j < i + suc n
-    by_test true f again = let d : i ≡ j = cc in omega arith
+    by_test : (t : Bool) → pick t (here i pb (two m (sb + 6))) (seat_in m ca (i + 1) (pb + 48 * two m (sb + 6)) (sb + 8) n) ≡ here j first h
+        → (seat_in m ca (i + 1) (pb + 48 * two m (sb + 6)) (sb + 8) n ≡ here j first h → j < i + 1 + n) → j < i + suc n
+    by_test true f again = let d = (same_numbers f).0 in omega arith
     by_test false f again = let r = again f in omega arith
 
-pub seat_inside : (m : List ℕ) (ca j first h : ℕ) → seat_at m ca ≡ Here j first h → j < two m 6
+pub seat_inside : (m : List ℕ) (ca : ℕ) (s : Seat) → seat_at m ca ≡ Some s → s.index < two m 6
 unfolding seat_at
-seat_inside m ca j first h e = let r = seat_index m ca 0 64 (64 + 48 * two m 4) (two m 6) j first h e in omega arith
+seat_inside m ca s e = let r = seat_index m ca 0 64 (64 + 48 * two m 4) (two m 6) s.index s.first s.held e in omega arith
 
 -- who is admitted is below the ceiling
 pub done_below : (s : Share) (free unmet : ℕ) → is_done (standing_of s free unmet).outcome ≡ true → s.held < s.ceiling
 unfolding standing_of
 done_below s free unmet d = (admitted_only s free unmet (admitted_is _ (done_is _ d))).below_ceiling
-
-module _ (m taken : List ℕ) (ca free unmet : ℕ) where
-  pub turn_unplanned : seat_at m ca ≡ NotPlanned
-      → (record { outcome = StationNotPlanned; free = free; unmet = unmet } ≡ standing_at m taken (seat_at m ca) free unmet)
-      × (taken ≡ taken_at m taken (seat_at m ca) free unmet)
-  unfolding standing_at taken_at
-  turn_unplanned e = (ap (λ (s : Seat). standing_at m taken s free unmet) (sym e), ap (λ (s : Seat). taken_at m taken s free unmet) (sym e))
-
-  module _ (j first h : ℕ) (e : seat_at m ca ≡ Here j first h) (x : Standing) (is : x ≡ standing_of (share_with m (station_at m j) (get_or taken j 0)) free unmet) where
-    standing_here : x ≡ standing_at m taken (seat_at m ca) free unmet
-    unfolding standing_at
-    standing_here = is ∙ ap (λ (s : Seat). standing_at m taken s free unmet) (sym e)
-
-    pub turn_refused : is_done x.outcome ≡ false
-        → (x ≡ standing_at m taken (seat_at m ca) free unmet) × (taken ≡ taken_at m taken (seat_at m ca) free unmet)
-    unfolding taken_at
-    turn_refused d =
-        let f : is_done (standing_of (share_with m (station_at m j) (get_or taken j 0)) free unmet).outcome ≡ false = ap (λ (y : Standing). is_done y.outcome) (sym is) ∙ d in
-        (standing_here, sym (ap (λ (s : Seat). taken_at m taken s free unmet) e ∙ (simp f)))
-
-    pub turn_done : is_done x.outcome ≡ true
-        → (x ≡ standing_at m taken (seat_at m ca) free unmet) × (set taken j (get_or taken j 0 + 1) ≡ taken_at m taken (seat_at m ca) free unmet)
-    unfolding taken_at
-    turn_done d =
-        let f : is_done (standing_of (share_with m (station_at m j) (get_or taken j 0)) free unmet).outcome ≡ true = ap (λ (y : Standing). is_done y.outcome) (sym is) ∙ d in
-        (standing_here, sym (ap (λ (s : Seat). taken_at m taken s free unmet) e ∙ (simp f)))
 
 -- ---- the turns of the loop
 
@@ -153,29 +128,29 @@ pub record Along (m taken : List ℕ) (free unmet' : ℕ) (t : Table) : Type 0 w
   pub is_unmet : unmet' ≡ total unmet t.stations
   pub room : two m 6 ≤ length taken
 
-asked_at_lem : (m taken : List ℕ) (free unmet' : ℕ) (t : Table) (ca j first h : ℕ) → Along m taken free unmet' t → seat_at m ca ≡ Here j first h
+asked_at_lem : (m taken : List ℕ) (free unmet' : ℕ) (t : Table) (ca j first h : ℕ) → Along m taken free unmet' t → seat_at m ca ≡ here j first h
     → Asked m taken (64 + 48 * two m 4) ca j 0 (64 + 48 * two m 4) (two m 6) t.stations
 unfolding seat_at
 asked_at_lem m taken free unmet' t ca j first h a e =
     asked m taken (64 + 48 * two m 4) ca j first h 0 64 (64 + 48 * two m 4) (two m 6) t.stations (omega arith) e a.lines
 
-unplanned_at : (m taken : List ℕ) (free unmet' : ℕ) (t : Table) (ca : ℕ) → Along m taken free unmet' t → seat_at m ca ≡ NotPlanned
+unplanned_at : (m taken : List ℕ) (free unmet' : ℕ) (t : Table) (ca : ℕ) → Along m taken free unmet' t → seat_at m ca ≡ None
     → station_of ca t.stations ≡ none
 unfolding seat_at
 unplanned_at m taken free unmet' t ca a e = not_asked m taken ca 0 64 (64 + 48 * two m 4) (two m 6) t.stations e a.lines
 
 -- The answer in memory is the table's.
-same_fault : (m taken : List ℕ) (free unmet' : ℕ) (t : Table) (ca : ℕ) (s : Seat) → Along m taken free unmet' t → seat_at m ca ≡ s
+same_fault : (m taken : List ℕ) (free unmet' : ℕ) (t : Table) (ca : ℕ) (s : Option Seat) → Along m taken free unmet' t → seat_at m ca ≡ s
     → (standing_at m taken s free unmet').outcome ≡ room_fault t (station_of ca t.stations)
 unfolding standing_at standing_of room_fault
-same_fault m taken free unmet' t ca (Here j first h) a e =
-    let q = asked_at_lem m taken free unmet' t ca j first h a e in
+same_fault m taken free unmet' t ca (Some s) a e =
+    let q = asked_at_lem m taken free unmet' t ca s.index s.first s.held a e in
     let f : free ≡ t.capacity - total held t.stations = a.is_free in
     let u : unmet' ≡ total unmet t.stations = a.is_unmet in
     let f' : free ≡ t.capacity - total held_of (map share_of t.stations) = f ∙ ap (λ (x : ℕ). t.capacity - x) (sym (total_held t.stations)) in
     let u' : unmet' ≡ total unmet_of (map share_of t.stations) = u ∙ sym (total_unmet t.stations) in
     (λ k. admission_outcome (admission_of (sym q.share k) (f' k) (u' k))) ∙ sym (ap (room_fault t) q.is_station)
-same_fault m taken free unmet' t ca NotPlanned a e = sym (ap (room_fault t) (unplanned_at m taken free unmet' t ca a e))
+same_fault m taken free unmet' t ca None a e = sym (ap (room_fault t) (unplanned_at m taken free unmet' t ca a e))
 
 -- the sums with one point more at a station
 sums_more : (t : Table) (ca : ℕ) (f : List Point → List Point) (s : Station) → station_of ca t.stations ≡ some s → length (f s.points) ≡ length s.points + 1
@@ -202,7 +177,7 @@ unmet_lost s h =
     (λ k. a k - d k)
 
 -- After the turn all of it goes along with the table that has the point.
-along_on : (m taken : List ℕ) (free unmet' : ℕ) (t : Table) (q : Request) (j first h : ℕ) → Along m taken free unmet' t → seat_at m q.ca ≡ Here j first h
+along_on : (m taken : List ℕ) (free unmet' : ℕ) (t : Table) (q : Request) (j first h : ℕ) → Along m taken free unmet' t → seat_at m q.ca ≡ here j first h
     → is_done (standing_of (share_with m (station_at m j) (get_or taken j 0)) free unmet').outcome ≡ true
     → Along m (set taken j (get_or taken j 0 + 1)) (standing_of (share_with m (station_at m j) (get_or taken j 0)) free unmet').free
     (standing_of (share_with m (station_at m j) (get_or taken j 0)) free unmet').unmet (with_request t q)
@@ -257,7 +232,7 @@ unfolding room_tests
 none_more m taken t i e = e
 
 -- the turn of a request by its seat
-turn_law : (m taken : List ℕ) (free unmet' i : ℕ) (t : Table) (q : Request) (qs : List Request) (s : Seat) → Along m taken free unmet' t → seat_at m q.ca ≡ s
+turn_law : (m taken : List ℕ) (free unmet' i : ℕ) (t : Table) (q : Request) (qs : List Request) (s : Option Seat) → Along m taken free unmet' t → seat_at m q.ca ≡ s
     → ((taken : List ℕ) (free unmet' : ℕ) → Along m taken free unmet' (with_request t q)
     → room_run m taken free unmet' (i + 1) qs ≡ reply_of (room_tests (with_request t q) (i + 1) qs))
     → pick (is_done (standing_at m taken s free unmet').outcome)
@@ -265,11 +240,11 @@ turn_law : (m taken : List ℕ) (free unmet' i : ℕ) (t : Table) (q : Request) 
     (record { outcome = (standing_at m taken s free unmet').outcome; place = i })
     ≡ reply_of (room_tests t i (q ∷ qs))
 unfolding room_tests standing_at taken_at room_fault reply_of
-turn_law m taken free unmet' i t q qs (Here j first h) a e again =
-    one_turn _ _ i t _ _ (same_fault m taken free unmet' t q.ca (Here j first h) a e)
-    (λ d. (simp d) ∙ again _ _ _ (along_on m taken free unmet' t q j first h a e d))
-turn_law m taken free unmet' i t q qs NotPlanned a e again =
-    ap (λ (o : Option Station). reply_of (pick (is_done (room_fault t o)) (room_tests (with_request t q) (i + 1) qs) (refused (room_fault t o) i t)))
+turn_law m taken free unmet' i t q qs (Some s) a e again =
+    one_turn _ _ i t _ _ (same_fault m taken free unmet' t q.ca (Some s) a e)
+    (λ d. (simp d) ∙ again _ _ _ (along_on m taken free unmet' t q s.index s.first s.held a e d))
+turn_law m taken free unmet' i t q qs None a e again =
+    ap (λ (o : _). reply_of (pick (is_done (room_fault t o)) (room_tests (with_request t q) (i + 1) qs) (refused (room_fault t o) i t)))
     (sym (unplanned_at m taken free unmet' t q.ca a e))
 
 -- The turns in memory give the answer of the table.
@@ -296,7 +271,7 @@ room_first t i q qs e = by_test (is_done (room_fault t (station_of q.ca t.statio
     by_test false d f = not_both (sym d ∙ ap is_done f)
 
 -- the turn of a request by its seat
-turn_taken : (m taken : List ℕ) (free unmet' : ℕ) (t : Table) (q : Request) (qs : List Request) (goal : List Holding) (s : Seat) → Along m taken free unmet' t
+turn_taken : (m taken : List ℕ) (free unmet' : ℕ) (t : Table) (q : Request) (qs : List Request) (goal : List Holding) (s : Option Seat) → Along m taken free unmet' t
     → seat_at m q.ca ≡ s → room_fault t (station_of q.ca t.stations) ≡ Done
     → ((taken : List ℕ) (free unmet' : ℕ) → Along m taken free unmet' (with_request t q)
     → goal ≡ lines_at m (taken_run m taken free unmet' qs) 0 (64 + 48 * two m 4) (two m 6))
@@ -304,12 +279,12 @@ turn_taken : (m taken : List ℕ) (free unmet' : ℕ) (t : Table) (q : Request) 
     (taken_run m (taken_at m taken s free unmet') (standing_at m taken s free unmet').free (standing_at m taken s free unmet').unmet qs)
     (taken_at m taken s free unmet')) 0 (64 + 48 * two m 4) (two m 6)
 unfolding standing_at taken_at
-turn_taken m taken free unmet' t q qs goal (Here j first h) a e r again =
-    let d : is_done (standing_of (share_with m (station_at m j) (get_or taken j 0)) free unmet').outcome ≡ true =
-    ap is_done (same_fault m taken free unmet' t q.ca (Here j first h) a e ∙ r) in
-    again _ _ _ (along_on m taken free unmet' t q j first h a e d) ∙ sym (simp d)
-turn_taken m taken free unmet' t q qs goal NotPlanned a e r again =
-    not_both (ap is_done (same_fault m taken free unmet' t q.ca NotPlanned a e ∙ r))
+turn_taken m taken free unmet' t q qs goal (Some s) a e r again =
+    let d : is_done (standing_of (share_with m (station_at m s.index) (get_or taken s.index 0)) free unmet').outcome ≡ true =
+    ap is_done (same_fault m taken free unmet' t q.ca (Some s) a e ∙ r) in
+    again _ _ _ (along_on m taken free unmet' t q s.index s.first s.held a e d) ∙ sym (simp d)
+turn_taken m taken free unmet' t q qs goal None a e r again =
+    not_both (ap is_done (same_fault m taken free unmet' t q.ca None a e ∙ r))
 
 -- What was taken in after the turns is what the stations of the table hold more.
 run_taken : (m : List ℕ) (qs : List Request) (taken : List ℕ) (free unmet' i : ℕ) (t : Table) → Along m taken free unmet' t → (room_tests t i qs).outcome ≡ Done

@@ -1,4 +1,5 @@
 -- What the stations hold at a turn of a batch: the octets of the table with what each took in, station by station. Assumes nothing.
+use Rattle.std.specs.Prelude.{None}
 use mathlib.Core.Path.{◌≡◌, refl, sym, ap, ◌∙◌, subst}
 use mathlib.Core.List.{List, [], ◌∷◌, map}
 use mathlib.Core.Bool.{Bool, true, false}
@@ -16,8 +17,8 @@ use Rattle.table.specs.Table.{Station, share_of}
 use Rattle.table.specs.Memory.{points_at, stations_at}
 use Rattle.table.specs.Change.{station_of, in_station, with_points}
 use Rattle.table.proofs.Points.{length_points_at}
-use Rattle.lookup.specs.declared.Seat.TheVariants.{Here, NotPlanned}
-use Rattle.lookup.specs.Seats.{seat_in}
+use Rattle.lookup.specs.Seats.{here, seat_in}
+use Rattle.lookup.proofs.Laws.{same_numbers}
 use Rattle.registry.specs.History.{Holding, holding_of}
 use Rattle.batch_room.specs.Room.{share_with}
 
@@ -121,7 +122,7 @@ unfolding lines_at
 no_stations m taken i sb s ss e = cc
 
 -- A seat found.
-pub asked : (m taken : List ℕ) (base ca j first h i pb sb n : ℕ) (ss : List Station) → sb ≡ base + 8 * i → seat_in m ca i pb sb n ≡ Here j first h
+pub asked : (m taken : List ℕ) (base ca j first h i pb sb n : ℕ) (ss : List Station) → sb ≡ base + 8 * i → seat_in m ca i pb sb n ≡ here j first h
     → map holding_of ss ≡ lines_at m taken i sb n → Asked m taken base ca j i sb n ss
 unfolding seat_in
 asked m taken base ca j first h i pb sb zero ss b e l = let z : ◌≡◌ {A = ℕ} 0 1 = cc in absurd (omega arith)
@@ -131,17 +132,17 @@ asked m taken base ca j first h i pb sb (suc n) (s ∷ ss) b e l =
     by_test (eqb (two m sb) ca) refl e q.0 q.1 (λ x. asked m taken base ca j first h (i + 1) (pb + 48 * two m (sb + 6)) (sb + 8) n ss (omega arith) x q.1)
   where
     by_test : (t : Bool) → eqb (two m sb) ca ≡ t
-        → pick t (Here i pb (two m (sb + 6))) (seat_in m ca (i + 1) (pb + 48 * two m (sb + 6)) (sb + 8) n) ≡ Here j first h
+        → pick t (here i pb (two m (sb + 6))) (seat_in m ca (i + 1) (pb + 48 * two m (sb + 6)) (sb + 8) n) ≡ here j first h
         → holding_of s ≡ line_with m sb (get_or taken i 0) → map holding_of ss ≡ lines_at m taken (i + 1) (sb + 8) n
-        → (seat_in m ca (i + 1) (pb + 48 * two m (sb + 6)) (sb + 8) n ≡ Here j first h → Asked m taken base ca j (i + 1) (sb + 8) n ss)
+        → (seat_in m ca (i + 1) (pb + 48 * two m (sb + 6)) (sb + 8) n ≡ here j first h → Asked m taken base ca j (i + 1) (sb + 8) n ss)
         → Asked m taken base ca j i sb (suc n) (s ∷ ss)
     by_test true t f x y again =
-        let d : i ≡ j = cc in
+        let d = (same_numbers f).0 in
         subst (λ (z : ℕ). Asked m taken base ca z i sb (suc n) (s ∷ ss)) d (asked_here m taken base ca i sb n s ss (eqb-true _ _ t) b x y)
     by_test false t f x y again = asked_later m taken base ca j i sb n s ss (eqb-false _ _ t) x (again f)
 
 -- None found.
-pub not_asked : (m taken : List ℕ) (ca i pb sb n : ℕ) (ss : List Station) → seat_in m ca i pb sb n ≡ NotPlanned
+pub not_asked : (m taken : List ℕ) (ca i pb sb n : ℕ) (ss : List Station) → seat_in m ca i pb sb n ≡ None
     → map holding_of ss ≡ lines_at m taken i sb n → station_of ca ss ≡ none
 unfolding seat_in station_of
 not_asked m taken ca i pb sb n [] e l = refl
@@ -151,9 +152,9 @@ not_asked m taken ca i pb sb (suc n) (s ∷ ss) e l =
     by_test (eqb (two m sb) ca) refl e q.0 (λ x. not_asked m taken ca (i + 1) (pb + 48 * two m (sb + 6)) (sb + 8) n ss x q.1)
   where
     by_test : (t : Bool) → eqb (two m sb) ca ≡ t
-        → pick t (Here i pb (two m (sb + 6))) (seat_in m ca (i + 1) (pb + 48 * two m (sb + 6)) (sb + 8) n) ≡ NotPlanned
+        → pick t (here i pb (two m (sb + 6))) (seat_in m ca (i + 1) (pb + 48 * two m (sb + 6)) (sb + 8) n) ≡ None
         → holding_of s ≡ line_with m sb (get_or taken i 0)
-        → (seat_in m ca (i + 1) (pb + 48 * two m (sb + 6)) (sb + 8) n ≡ NotPlanned → station_of ca ss ≡ none)
+        → (seat_in m ca (i + 1) (pb + 48 * two m (sb + 6)) (sb + 8) n ≡ None → station_of ca ss ≡ none)
         → pick (eqb s.ca ca) (some s) (station_of ca ss) ≡ none
     by_test true t f x again = let z : ◌≡◌ {A = ℕ} 0 1 = cc in absurd (omega arith)
     by_test false t f x again =

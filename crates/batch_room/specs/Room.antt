@@ -1,6 +1,6 @@
 -- The share rule over a batch: the answer, and below the line the turns as the code takes them.
 -- Document 01, 'Points, stations and shares': then the share rule as if registered one by one.
-use Rattle.std.specs.Prelude.{ℕ, ◌+◌, ◌*◌, ◌-◌, ◌≡◌, List, [], ◌∷◌, map, get_or, set}
+use Rattle.std.specs.Prelude.{ℕ, ◌+◌, ◌*◌, ◌-◌, ◌≡◌, List, [], ◌∷◌, map, get_or, set, Option, Some, None}
 use Rattle.limits.specs.Test.{pick}
 use Rattle.limits.specs.Share.{unmet_of, taken_in, admission_of}
 use Rattle.limits.specs.Outcome.{is_done}
@@ -9,7 +9,6 @@ use Rattle.limits.specs.declared.outcome.Outcome.TheVariants.{Done, StationNotPl
 use Rattle.layout.specs.Layout.{station_size, stations_from}
 use Rattle.model.specs.declared.Request.{Request}
 use Rattle.lookup.specs.declared.Seat.{Seat}
-use Rattle.lookup.specs.declared.Seat.TheVariants.{Here, NotPlanned}
 use Rattle.lookup.specs.Seats.{seat_at}
 use Rattle.table.specs.Table.{Station, Table, held}
 use Rattle.wellformed.specs.Station.{share_at}
@@ -48,15 +47,16 @@ abbrev pub station_at : List ℕ → ℕ → ℕ
 station_at m i = stations_from m + station_size * i
 
 -- the turn of a request whose station has a seat
-unfoldable pub standing_at : List ℕ → List ℕ → Seat → ℕ → ℕ → Standing
-standing_at m taken (Here i first h) free unmet = standing_of (share_with m (station_at m i) (get_or taken i 0)) free unmet
-standing_at m taken NotPlanned free unmet = record { outcome = StationNotPlanned; free = free; unmet = unmet }
+unfoldable pub standing_at : List ℕ → List ℕ → Option Seat → ℕ → ℕ → Standing
+standing_at m taken (Some seat) free unmet = standing_of (share_with m (station_at m seat.index) (get_or taken seat.index 0)) free unmet
+standing_at m taken None free unmet = record { outcome = StationNotPlanned; free = free; unmet = unmet }
 
 -- what the stations have taken in after the turn
-unfoldable pub taken_at : List ℕ → List ℕ → Seat → ℕ → ℕ → List ℕ
-taken_at m taken (Here i first h) free unmet =
-    pick (is_done (standing_of (share_with m (station_at m i) (get_or taken i 0)) free unmet).outcome) (set taken i (get_or taken i 0 + 1)) taken
-taken_at m taken NotPlanned free unmet = taken
+unfoldable pub taken_at : List ℕ → List ℕ → Option Seat → ℕ → ℕ → List ℕ
+taken_at m taken (Some seat) free unmet =
+    pick (is_done (standing_of (share_with m (station_at m seat.index) (get_or taken seat.index 0)) free unmet).outcome)
+    (set taken seat.index (get_or taken seat.index 0 + 1)) taken
+taken_at m taken None free unmet = taken
 
 -- what the turn of a request of station `ca` gives back, and what the stations have then taken in
 abbrev pub Turned : List ℕ → List ℕ → ℕ → ℕ → ℕ → Standing → List ℕ → Type 0

@@ -11,7 +11,6 @@ use batch_records::RECORD_OCTETS;
 use layout::{HEAD_SIZE, MOST_STATIONS, PLACE_SIZE};
 use limits::outcome::Outcome;
 use limits::share::Share;
-use lookup::Seat;
 use registry::Reply;
 
 // What a request is answered for room, and what is free and unmet after it.
@@ -61,6 +60,7 @@ fn share_with(m: &[u8], at: usize, taken: u16) -> Share
 }
 
 // The turn of a request of station `ca`; `taken` has what each station of the plan took in at the turns before.
+#[tactic(auto, using(crate::proofs::Laws::seat_inside, crate::proofs::Laws::done_below), unfolding(crate::specs::Room::share_with, crate::specs::Room::standing_at, crate::specs::Room::taken_at))]
 fn turn(
     m: &[u8],
     taken: &mut [u16; MOST_STATIONS],
@@ -71,14 +71,14 @@ fn turn(
     requires { (stations_in m.now ≤ most_stations) × (size_in m.now ≤ length m.now) }
     ensures { Turned m.now taken.old ca free unmet result taken.new }
 {
-    let seat = lookup::seat_at(m, ca);
-    let Seat::Here(index, _, _) = seat else {
+    let Some(seat) = lookup::seat_at(m, ca) else {
         return Standing {
             outcome: Outcome::StationNotPlanned,
             free: free,
             unmet: unmet,
         };
     };
+    let index = seat.index;
     let station = layout::station_at(m, index);
     let earlier = taken[index];
     let share = share_with(m, station, earlier);
