@@ -1,5 +1,6 @@
 -- The laws as an entry has them, over a well-formed memory: what the code counts and writes are the requested ASDUs of the points asked for,
 -- of a planned station, and an address is missing exactly where the points asked for are none. Assumes nothing.
+use Rattle.std.specs.Prelude.{Err, None, Ok, Result}
 use mathlib.Core.Path.{◌≡◌, refl, sym, ap, ◌∙◌}
 use mathlib.Core.List.{List, [], ◌∷◌, ◌++◌, map}
 use mathlib.Core.Bool.{Bool, true, false}
@@ -23,10 +24,7 @@ use Rattle.table.specs.Table.{rising}
 use Rattle.table.specs.Memory.{points_at, table_of, well_formed}
 use Rattle.table.specs.Change.{station_of, point_in, known}
 use Rattle.table.proofs.Parse.{passed}
-use Rattle.lookup.specs.declared.Seat.TheVariants.{Here, NotPlanned}
-use Rattle.lookup.specs.declared.Spot.{Spot}
-use Rattle.lookup.specs.declared.Spot.TheVariants.{Held, Missing}
-use Rattle.lookup.specs.Seats.{seat_at}
+use Rattle.lookup.specs.Seats.{here, seat_at}
 use Rattle.lookup.specs.Find.{find_at}
 use Rattle.lookup.proofs.Laws.{seat_law, absent_law}
 use Rattle.lookup.proofs.Halving.{held_law, missing_law}
@@ -98,10 +96,10 @@ module _ (m : List ℕ) (first h ca : ℕ) (asdu : List ℕ) (r : rising 0 (poin
       by_rest p e (some qs) f ih =
           ap (together (Known (9 + point_octets (get_or m p 0)))) ih ∙ ap Known (one_more m ca p qs) ∙ ap (counted ca) (sym (asked_some a rest ps (point_at m p) qs e f))
 
-      by_spot : (x : Spot) → find_at m first h a ≡ x → asked_at m first h asdu (at + 3) n ≡ counted ca (points_asked rest ps)
+      by_spot : (x : Result ℕ ℕ) → find_at m first h a ≡ x → asked_at m first h asdu (at + 3) n ≡ counted ca (points_asked rest ps)
           → together (asked_of m x) (asked_at m first h asdu (at + 3) n) ≡ counted ca (points_asked (a ∷ rest) ps)
-      by_spot (Held p) e ih = by_rest p (held_law m first h a p r e).is_point (points_asked rest ps) refl ih
-      by_spot (Missing p) e ih = ap (counted ca) (sym (asked_none a rest ps (not_in a ps (missing_law m first h a p r e).not_known)))
+      by_spot (Ok p) e ih = by_rest p (held_law m first h a p r e).is_point (points_asked rest ps) refl ih
+      by_spot (Err p) e ih = ap (counted ca) (sym (asked_none a rest ps (not_in a ps (missing_law m first h a p r e).not_known)))
 
   requested_is : (at n : ℕ) (qs : List Point) → points_asked (addresses_in asdu at n) (points_at m first h) ≡ some qs
       → requested_at m first h ca asdu at n ≡ map (requested_asdu ca) qs
@@ -131,9 +129,9 @@ module _ (m : List ℕ) (first h ca : ℕ) (asdu : List ℕ) (r : rising 0 (poin
           ap (λ (l : List Asdu). requested_asdu ca (point_at m p) ∷ l) (again x f) ∙ ap (map (requested_asdu ca)) q
 
       by_spot : ((x : List Point) → points_asked rest ps ≡ some x → requested_at m first h ca asdu (at + 3) n ≡ map (requested_asdu ca) x)
-          → (x : Spot) → find_at m first h a ≡ x → requested_of m ca x ++ requested_at m first h ca asdu (at + 3) n ≡ map (requested_asdu ca) qs
-      by_spot again (Held p) d = by_rest again p (held_law m first h a p r d).is_point (points_asked rest ps) refl
-      by_spot again (Missing p) d =
+          → (x : Result ℕ ℕ) → find_at m first h a ≡ x → requested_of m ca x ++ requested_at m first h ca asdu (at + 3) n ≡ map (requested_asdu ca) qs
+      by_spot again (Ok p) d = by_rest again p (held_law m first h a p r d).is_point (points_asked rest ps) refl
+      by_spot again (Err p) d =
           let g : none ≡ some qs = sym (asked_none a rest ps (not_in a ps (missing_law m first h a p r d).not_known)) ∙ e in
           let z : ◌≡◌ {A = ℕ} 0 1 = cc in
           absurd (omega arith)
@@ -147,7 +145,7 @@ pub record Requested (m : List ℕ) (first h : ℕ) (c : Command) (asdu : List �
   pub is_octets : octets ≡ size (map (requested_asdu c.ca) points)
   pub is_data : requested_by m first h c asdu ≡ map (requested_asdu c.ca) points
 
-module _ (m : List ℕ) (i first h : ℕ) (o : Octets m) (w : well_formed m ≡ true) (c : Command) (e : seat_at m c.ca ≡ Here i first h) where
+module _ (m : List ℕ) (i first h : ℕ) (o : Octets m) (w : well_formed m ≡ true) (c : Command) (e : seat_at m c.ca ≡ here i first h) where
   -- the points at the seat are the station's, and they rise
   seat_rises : rising 0 (points_at m first h) ≡ true
   seat_rises = let z = seat_law m c.ca i first h o w e in ap (rising 0) z.points ∙ z.rises
@@ -194,7 +192,7 @@ module _ (m : List ℕ) (i first h : ℕ) (o : Octets m) (w : well_formed m ≡ 
         by_asked (some qs) d g = let z : ◌≡◌ {A = ℕ} 0 1 = cc in absurd (omega arith)
 
 -- A CA that is not planned, CA 65,535 too: the first address is missing.
-pub unplanned_read_law : (m : List ℕ) (c : Command) (asdu : List ℕ) → seat_at m c.ca ≡ NotPlanned → 0 < c.count → points_read c asdu (table_of m) ≡ none
+pub unplanned_read_law : (m : List ℕ) (c : Command) (asdu : List ℕ) → seat_at m c.ca ≡ None → 0 < c.count → points_read c asdu (table_of m) ≡ none
 unfolding addresses_in point_in
 unplanned_read_law m c asdu e some-there =
     let k : c.count ≡ suc (c.count - 1) = omega arith in

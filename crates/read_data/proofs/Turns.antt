@@ -1,4 +1,5 @@
 -- The turns of the two loops over a command's addresses, and where a place found lies. Assumes nothing.
+use Rattle.std.specs.Prelude.{Err, Ok, Result}
 use mathlib.Core.Path.{◌≡◌, refl, sym, ap, ◌∙◌}
 use mathlib.Core.List.{List, [], ◌++◌}
 use mathlib.Core.Bool.{Bool, true, false}
@@ -14,8 +15,6 @@ use Rattle.limits.proofs.Sizes.{point_at_most}
 use Rattle.octets.specs.Number.{three}
 use Rattle.asdu.specs.Header.{wire}
 use Rattle.asdu.proofs.Laws.{wire_none, wire_append}
-use Rattle.lookup.specs.declared.Spot.{Spot}
-use Rattle.lookup.specs.declared.Spot.TheVariants.{Held, Missing}
 use Rattle.lookup.specs.Find.{ioa_at, halve, spot_at, find_at}
 use Rattle.read_data.specs.declared.Asked.{Asked}
 use Rattle.read_data.specs.declared.Asked.TheVariants.{Known, AddressMissing}
@@ -24,14 +23,14 @@ use Rattle.read_data.specs.Reads.{asked_of, together, asked_at, requested_of, re
 -- ---- one address
 
 -- A place found lies among those asked, whatever they hold.
-pub held_inside : (m : List ℕ) (first n ioa at : ℕ) → find_at m first n ioa ≡ Held at → at + 48 ≤ first + 48 * n
+pub held_inside : (m : List ℕ) (first n ioa at : ℕ) → find_at m first n ioa ≡ Ok at → at + 48 ≤ first + 48 * n
 unfolding find_at spot_at
 held_inside m first n ioa at e = by_test (ltb j n & eqb (ioa_at m first j) ioa) refl e
   where
     j : ℕ
     j = halve (ioa_at m first) ioa 0 n n
 
-    by_test : (b : Bool) → ltb j n & eqb (ioa_at m first j) ioa ≡ b → pick b (Held (first + 48 * j)) (Missing (first + 48 * j)) ≡ Held at → at + 48 ≤ first + 48 * n
+    by_test : (b : Bool) → ltb j n & eqb (ioa_at m first j) ioa ≡ b → pick b (Ok (first + 48 * j)) (Err (first + 48 * j)) ≡ Ok at → at + 48 ≤ first + 48 * n
     by_test true t f =
         let p : first + 48 * j ≡ at = cc in
         let l : j < n = ltb-true _ _ (both _ _ t).0 in
@@ -39,13 +38,13 @@ held_inside m first n ioa at e = by_test (ltb j n & eqb (ioa_at m first j) ioa) 
     by_test false t f = let z : ◌≡◌ {A = ℕ} 0 1 = cc in absurd (omega arith)
 
 -- An ASDU of one point has at most 21 octets.
-pub asked_small : (m : List ℕ) (x : Spot) (k : ℕ) → Known k ≡ asked_of m x → k ≤ 21
+pub asked_small : (m : List ℕ) (x : Result ℕ ℕ) (k : ℕ) → Known k ≡ asked_of m x → k ≤ 21
 unfolding asked_of
-asked_small m (Held at) k e =
+asked_small m (Ok at) k e =
     let p = point_at_most (get_or m at 0) in
     let q : k ≡ 9 + point_octets (get_or m at 0) = cc in
     omega arith
-asked_small m (Missing at) k e = let z : ◌≡◌ {A = ℕ} 0 1 = cc in absurd (omega arith)
+asked_small m (Err at) k e = let z : ◌≡◌ {A = ℕ} 0 1 = cc in absurd (omega arith)
 
 -- ---- the octets
 

@@ -1,4 +1,5 @@
 -- The turns of the loop that writes: each requested ASDU goes in where the one before ended. Assumes nothing.
+use Rattle.std.specs.Prelude.{Err, Ok, Result}
 use mathlib.Core.Path.{◌≡◌, sym, ap, ◌∙◌, subst}
 use mathlib.Core.List.{List, [], ◌++◌}
 use Prim.Native.Nat.{ℕ, ◌+◌, ◌-◌, ◌≤◌, ◌<◌}
@@ -13,28 +14,26 @@ use Rattle.asdu.proofs.Laws.{wire_none, wire_one}
 use Rattle.answers.specs.Said.{size}
 use Rattle.octets.proofs.Log.{Log, log_step, log_room, log_end}
 use Rattle.model.specs.Place.{point_at}
-use Rattle.lookup.specs.declared.Spot.{Spot}
-use Rattle.lookup.specs.declared.Spot.TheVariants.{Held, Missing}
 use Rattle.lookup.specs.Find.{find_at}
 use Rattle.report.specs.Single.{requested_asdu}
 use Rattle.read_data.specs.Reads.{requested_of, requested_at}
 use Rattle.read_data.proofs.Turns.{requested_on, requested_end}
 
 -- a place found
-pub found_is : (m : List ℕ) (ca at : ℕ) (x : Spot) → x ≡ Held at → wire (requested_of m ca x) ≡ asdu_octets (requested_asdu ca (point_at m at))
+pub found_is : (m : List ℕ) (ca at : ℕ) (x : Result ℕ ℕ) → x ≡ Ok at → wire (requested_of m ca x) ≡ asdu_octets (requested_asdu ca (point_at m at))
 unfolding requested_of
-found_is m ca at x e = ap (λ (y : Spot). wire (requested_of m ca y)) e ∙ wire_one (requested_asdu ca (point_at m at))
+found_is m ca at x e = ap (λ (y : Result ℕ ℕ). wire (requested_of m ca y)) e ∙ wire_one (requested_asdu ca (point_at m at))
 
 over_nothing : (out : List ℕ) (o : ℕ) → over out o [] ≡ out
 unfolding over
 over_nothing out o = rw (add-zero o) (take-append-drop o out)
 
 -- none found: nothing is written
-pub nothing_found : (m out : List ℕ) (ca o at : ℕ) (x : Spot) → x ≡ Missing at
+pub nothing_found : (m out : List ℕ) (ca o at : ℕ) (x : Result ℕ ℕ) → x ≡ Err at
     → PutsAt o (wire (requested_of m ca x)) out o out
 unfolding requested_of
 nothing_found m out ca o at x e =
-    let q : wire (requested_of m ca x) ≡ [] = ap (λ (y : Spot). wire (requested_of m ca y)) e ∙ wire_none in
+    let q : wire (requested_of m ca x) ≡ [] = ap (λ (y : Result ℕ ℕ). wire (requested_of m ca y)) e ∙ wire_none in
     let l : length (wire (requested_of m ca x)) ≡ 0 = ap length q in
     (omega arith, sym (ap (over out o) q ∙ over_nothing out o))
 

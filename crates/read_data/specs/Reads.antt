@@ -1,22 +1,20 @@
 -- ---- as the code runs: nobody need believe what follows, the laws in proofs/Entry.antt tie it to `points_asked` and `requested_asdu`
-use Rattle.std.specs.Prelude.{ℕ, zero, suc, ◌+◌, List, [], ◌∷◌, ◌++◌, get_or}
+use Rattle.std.specs.Prelude.{ℕ, zero, suc, ◌+◌, List, [], ◌∷◌, ◌++◌, get_or, Err, Ok, Result}
 use Rattle.limits.specs.Size.{point_octets, header_octets, address_octets}
 use Rattle.octets.specs.Number.{three}
 use Rattle.model.specs.Place.{point_at}
 use Rattle.asdu.specs.Header.{Asdu}
 use Rattle.asdu.specs.declared.command.Command.{Command}
 use Rattle.asdu.specs.Command.{first_element}
-use Rattle.lookup.specs.declared.Spot.{Spot}
-use Rattle.lookup.specs.declared.Spot.TheVariants.{Held, Missing}
 use Rattle.lookup.specs.Find.{find_at}
 use Rattle.report.specs.Single.{requested_asdu}
 use Rattle.read_data.specs.declared.Asked.{Asked}
 use Rattle.read_data.specs.declared.Asked.TheVariants.{Known, AddressMissing}
 
 -- the octets of the requested ASDU of the point at a place: header, address and element
-unfoldable pub asked_of : List ℕ → Spot → Asked
-asked_of m (Held at) = Known (first_element + point_octets (get_or m at 0))
-asked_of m (Missing at) = AddressMissing
+unfoldable pub asked_of : List ℕ → Result ℕ ℕ → Asked
+asked_of m (Ok at) = Known (first_element + point_octets (get_or m at 0))
+asked_of m (Err at) = AddressMissing
 
 -- both together, missing where one is
 abbrev pub together : Asked → Asked → Asked
@@ -30,9 +28,9 @@ asked_at m first h asdu at zero = Known 0
 asked_at m first h asdu at (suc n) = together (asked_of m (find_at m first h (three asdu at))) (asked_at m first h asdu (at + address_octets) n)
 
 -- the requested ASDU of the point at a place
-unfoldable pub requested_of : List ℕ → ℕ → Spot → List Asdu
-requested_of m ca (Held at) = requested_asdu ca (point_at m at) ∷ []
-requested_of m ca (Missing at) = []
+unfoldable pub requested_of : List ℕ → ℕ → Result ℕ ℕ → List Asdu
+requested_of m ca (Ok at) = requested_asdu ca (point_at m at) ∷ []
+requested_of m ca (Err at) = []
 
 -- those of the n addresses from `at`, one after another
 unfoldable pub requested_at : List ℕ → ℕ → ℕ → ℕ → List ℕ → ℕ → ℕ → List Asdu

@@ -14,7 +14,6 @@ ghost use Rattle.read_data.specs.Reads.{asked_of, asked_at, requested_of, reques
 use asdu::command::Command;
 use asdu::cot::REQUEST;
 use limits::size::{ADDRESS_OCTETS, HEADER_OCTETS};
-use lookup::Spot;
 
 // What a read command asks for: the octets of all requested ASDUs together, or an address that no point has.
 #[derive(Clone, Copy)]
@@ -28,12 +27,9 @@ fn found_octets(m: &[u8], first: usize, h: usize, ioa: usize) -> Asked
     requires { first + place_size * h ≤ length m.now }
     ensures { result ≡ asked_of m.now (find_at m.now first h ioa) }
 {
-    let spot = lookup::find(m, first, h, ioa);
-    match spot {
-        Spot::Held(at) => Asked::Known(
-            HEADER_OCTETS + ADDRESS_OCTETS + limits::size::point_octets(m[at]),
-        ),
-        Spot::Missing(_) => Asked::AddressMissing,
+    match lookup::find(m, first, h, ioa) {
+        Ok(at) => Asked::Known(HEADER_OCTETS + ADDRESS_OCTETS + limits::size::point_octets(m[at])),
+        Err(_) => Asked::AddressMissing,
     }
 }
 
@@ -70,7 +66,7 @@ fn put_found(
     requires { (first + place_size * h ≤ length m.now) × (o + size (requested_of m.now ca (find_at m.now first h ioa)) ≤ length out.old) }
     ensures { PutsAt o (wire (requested_of m.now ca (find_at m.now first h ioa))) out.old result out.new }
 {
-    let Spot::Held(at) = lookup::find(m, first, h, ioa) else {
+    let Ok(at) = lookup::find(m, first, h, ioa) else {
         return o;
     };
     output::single::put_single(out, o, REQUEST, ca, m, at)

@@ -17,7 +17,7 @@ returns-in_default c =
 pub put_single-requires : goal.put_single-requires
 put_single-requires c =
     let a = c.args in
-    let e = sym c.find.ensures ∙ c.in-Held.is in
+    let e = sym c.find.ensures ∙ c.in-Ok.is in
     let h = held_inside a.m.now a.first a.h a.ioa _ e in
     let l = ap length (found_is a.m.now a.ca _ _ e) in
     (omega arith, omega arith, omega arith)
@@ -25,7 +25,7 @@ put_single-requires c =
 pub returns : goal.returns
 returns c =
     let a = c.args in
-    let e = sym c.find.ensures ∙ c.in-Held.is in
+    let e = sym c.find.ensures ∙ c.in-Ok.is in
     let f = sym (found_is a.m.now a.ca _ _ e) in
     let p = c.put_single.ensures in
     (p.0 ∙ ap (λ (x : List ℕ). a.o + length x) f, p.1 ∙ ap (over a.out.now a.o) f)
