@@ -1,8 +1,9 @@
 -- Which point an update means: what the code finds in a well-formed memory is the point that the definition names. Assumes nothing.
+use Rattle.std.specs.Prelude.{Option, Some, None, Result, Ok, Err}
 use mathlib.Core.Path.{◌≡◌, refl, sym, ap, ◌∙◌, subst}
 use mathlib.Core.List.{List, [], ◌∷◌}
 use mathlib.Core.Bool.{Bool, true, false}
-use mathlib.Core.Option.{Option, none, some}
+use mathlib.Core.Option.{none, some}
 use Prim.Native.Nat.{ℕ, ◌+◌, ◌*◌, ◌≤◌}
 use native.Mathlib.Omega.{arith}
 use lib.ListN.{length, get_or}
@@ -19,10 +20,7 @@ use Rattle.table.proofs.Parse.{passed}
 use Rattle.table.proofs.Change.{Found}
 use Rattle.report.specs.Order.{points_of}
 use Rattle.lookup.specs.declared.Seat.{Seat}
-use Rattle.lookup.specs.declared.Seat.TheVariants.{Here, NotPlanned}
-use Rattle.lookup.specs.declared.Spot.{Spot}
-use Rattle.lookup.specs.declared.Spot.TheVariants.{Held, Missing}
-use Rattle.lookup.specs.Seats.{seat_at}
+use Rattle.lookup.specs.Seats.{here, seat_at}
 use Rattle.lookup.specs.Find.{find_at}
 use Rattle.lookup.proofs.Laws.{Seated, Seen, seat_law, absent_law}
 use Rattle.lookup.proofs.Halving.{HeldAt, held_law, missing_law}
@@ -36,7 +34,7 @@ module _ (m : List ℕ) (w : well_formed m ≡ true) where
   pub table_bounds : (two m 6 ≤ 64) × (64 + 48 * two m 4 + 8 * two m 6 ≤ length m)
   table_bounds = let p = passed m w in (p.top.s_high, p.top.room)
 
-  module _ (o : Octets m) (ca i first h : ℕ) (e : seat_at m ca ≡ Here i first h) where
+  module _ (o : Octets m) (ca i first h : ℕ) (e : seat_at m ca ≡ here i first h) where
     pub seat_bounds : first + 48 * h ≤ length m
     seat_bounds =
         let p = passed m w in
@@ -45,12 +43,12 @@ module _ (m : List ℕ) (w : well_formed m ≡ true) where
         let places : first + 48 * h ≤ 64 + 48 * two m 8 = (seat_law m ca i first h o w e).places in
         omega arith
 
-    pub spot_law : (ioa at : ℕ) → find_at m first h ioa ≡ Held at → HeldAt m first h ioa at (points_at m first h)
+    pub spot_law : (ioa at : ℕ) → find_at m first h ioa ≡ Ok at → HeldAt m first h ioa at (points_at m first h)
     spot_law ioa at f =
         let seen : Seen m ca i first h = seat_law m ca i first h o w e in
         held_law m first h ioa at (ap (rising 0) seen.points ∙ seen.rises) f
 
-    pub held_bounds : (ioa at : ℕ) → find_at m first h ioa ≡ Held at → at + 48 ≤ length m
+    pub held_bounds : (ioa at : ℕ) → find_at m first h ioa ≡ Ok at → at + 48 ≤ length m
     held_bounds ioa at f = let b = seat_bounds in let k = (spot_law ioa at f).inside in omega arith
 
 -- ---- the point that is meant
@@ -78,14 +76,14 @@ unknown_none ioa (q ∷ qs) k = by_test (eqb q.ioa ioa) k (λ f. unknown_none io
 
 module _ (m : List ℕ) (u : Update) (o : Octets m) (w : well_formed m ≡ true) where
   -- the station planned, and a point at the address
-  module _ (i first h : ℕ) (e : seat_at m u.ca ≡ Here i first h) (a : ℕ) (f : find_at m first h u.ioa ≡ Held a) where
+  module _ (i first h : ℕ) (e : seat_at m u.ca ≡ here i first h) (a : ℕ) (f : find_at m first h u.ioa ≡ Ok a) where
     found_update : station_of u.ca (table_of m).stations ≡ some (seat_law m u.ca i first h o w e).seat.s
         → update_of (table_of m) u ≡ updated u (some (point_at m a))
     found_update is =
         let seen : Seen m u.ca i first h = seat_law m u.ca i first h o w e in
         let q : point_in u.ioa seen.seat.s.points ≡ some (point_at m a) =
         ap (point_in u.ioa) (sym seen.points) ∙ (spot_law m w o u.ca i first h e u.ioa a f).is_point in
-        ap (λ (x : Option Station). updated u (point_in u.ioa (points_of x))) is ∙ ap (updated u) q
+        ap (λ (x : _). updated u (point_in u.ioa (points_of x))) is ∙ ap (updated u) q
 
     place_found : eqb (get_or m a 0) u.kind ≡ true → Targeted m u a
     unfolding updated
@@ -111,72 +109,72 @@ module _ (m : List ℕ) (u : Update) (o : Octets m) (w : well_formed m ≡ true)
     other_kind k = found_update (seat_law m u.ca i first h o w e).seat.is_station ∙ simp k
 
   -- no point at the address
-  module _ (i first h : ℕ) (e : seat_at m u.ca ≡ Here i first h) (a : ℕ) (f : find_at m first h u.ioa ≡ Missing a) where
+  module _ (i first h : ℕ) (e : seat_at m u.ca ≡ here i first h) (a : ℕ) (f : find_at m first h u.ioa ≡ Err a) where
     no_point : update_of (table_of m) u ≡ none
     unfolding updated
     no_point =
         let seen : Seen m u.ca i first h = seat_law m u.ca i first h o w e in
         let k : known u.ioa seen.seat.s.points ≡ false =
         ap (known u.ioa) (sym seen.points) ∙ (missing_law m first h u.ioa a (ap (rising 0) seen.points ∙ seen.rises) f).not_known in
-        ap (λ (x : Option Station). updated u (point_in u.ioa (points_of x))) seen.seat.is_station ∙ ap (updated u) (unknown_none u.ioa seen.seat.s.points k)
+        ap (λ (x : _). updated u (point_in u.ioa (points_of x))) seen.seat.is_station ∙ ap (updated u) (unknown_none u.ioa seen.seat.s.points k)
 
   -- no such station
-  no_station : seat_at m u.ca ≡ NotPlanned → update_of (table_of m) u ≡ none
+  no_station : seat_at m u.ca ≡ None → update_of (table_of m) u ≡ none
   unfolding updated point_in
-  no_station e = ap (λ (x : Option Station). updated u (point_in u.ioa (points_of x))) (absent_law m u.ca e)
+  no_station e = ap (λ (x : _). updated u (point_in u.ioa (points_of x))) (absent_law m u.ca e)
 
   -- A place: the update changes the point there.
   pub target_place : (at : ℕ) → target_at m u ≡ Place at → Targeted m u at
   unfolding target_at
   target_place at e = of_seat (seat_at m u.ca) refl e
     where
-      of_kind_lem : (i first h : ℕ) → seat_at m u.ca ≡ Here i first h → (a : ℕ) → find_at m first h u.ioa ≡ Held a
+      of_kind_lem : (i first h : ℕ) → seat_at m u.ca ≡ here i first h → (a : ℕ) → find_at m first h u.ioa ≡ Ok a
           → (b : Bool) → eqb (get_or m a 0) u.kind ≡ b → pick b (Place a) Skipped ≡ Place at → Targeted m u at
       of_kind_lem i first h p a q true k f = let z : a ≡ at = cc in subst (λ (x : ℕ). Targeted m u x) z (place_found i first h p a q k)
       of_kind_lem i first h p a q false k f = let z : ◌≡◌ {A = ℕ} 0 1 = cc in absurd (omega arith)
 
-      of_spot : (i first h : ℕ) → seat_at m u.ca ≡ Here i first h → (x : Spot) → find_at m first h u.ioa ≡ x → target_on m u x ≡ Place at → Targeted m u at
-      of_spot i first h p (Held a) q f = of_kind_lem i first h p a q (eqb (get_or m a 0) u.kind) refl f
-      of_spot i first h p (Missing a) q f = let z : ◌≡◌ {A = ℕ} 0 1 = cc in absurd (omega arith)
+      of_spot : (i first h : ℕ) → seat_at m u.ca ≡ here i first h → (x : Result ℕ ℕ) → find_at m first h u.ioa ≡ x → target_on m u x ≡ Place at → Targeted m u at
+      of_spot i first h p (Ok a) q f = of_kind_lem i first h p a q (eqb (get_or m a 0) u.kind) refl f
+      of_spot i first h p (Err a) q f = let z : ◌≡◌ {A = ℕ} 0 1 = cc in absurd (omega arith)
 
-      of_seat : (x : Seat) → seat_at m u.ca ≡ x → target_in m u x ≡ Place at → Targeted m u at
-      of_seat (Here i first h) p f = of_spot i first h p (find_at m first h u.ioa) refl f
-      of_seat NotPlanned p f = let z : ◌≡◌ {A = ℕ} 0 1 = cc in absurd (omega arith)
+      of_seat : (x : Option Seat) → seat_at m u.ca ≡ x → target_in m u x ≡ Place at → Targeted m u at
+      of_seat (Some s) p f = of_spot s.index s.first s.held p (find_at m s.first s.held u.ioa) refl f
+      of_seat None p f = let z : ◌≡◌ {A = ℕ} 0 1 = cc in absurd (omega arith)
 
   -- Skipped: it changes nothing.
   pub target_skipped : target_at m u ≡ Skipped → update_of (table_of m) u ≡ none
   unfolding target_at
   target_skipped e = of_seat (seat_at m u.ca) refl e
     where
-      of_kind_lem : (i first h : ℕ) → seat_at m u.ca ≡ Here i first h → (a : ℕ) → find_at m first h u.ioa ≡ Held a
+      of_kind_lem : (i first h : ℕ) → seat_at m u.ca ≡ here i first h → (a : ℕ) → find_at m first h u.ioa ≡ Ok a
           → (b : Bool) → eqb (get_or m a 0) u.kind ≡ b → pick b (Place a) Skipped ≡ Skipped → update_of (table_of m) u ≡ none
       of_kind_lem i first h p a q true k f = let z : ◌≡◌ {A = ℕ} 0 1 = cc in absurd (omega arith)
       of_kind_lem i first h p a q false k f = other_kind i first h p a q k
 
-      of_spot : (i first h : ℕ) → seat_at m u.ca ≡ Here i first h → (x : Spot) → find_at m first h u.ioa ≡ x → target_on m u x ≡ Skipped → update_of (table_of m) u ≡ none
-      of_spot i first h p (Held a) q f = of_kind_lem i first h p a q (eqb (get_or m a 0) u.kind) refl f
-      of_spot i first h p (Missing a) q f = no_point i first h p a q
+      of_spot : (i first h : ℕ) → seat_at m u.ca ≡ here i first h → (x : Result ℕ ℕ) → find_at m first h u.ioa ≡ x → target_on m u x ≡ Skipped → update_of (table_of m) u ≡ none
+      of_spot i first h p (Ok a) q f = of_kind_lem i first h p a q (eqb (get_or m a 0) u.kind) refl f
+      of_spot i first h p (Err a) q f = no_point i first h p a q
 
-      of_seat : (x : Seat) → seat_at m u.ca ≡ x → target_in m u x ≡ Skipped → update_of (table_of m) u ≡ none
-      of_seat (Here i first h) p f = of_spot i first h p (find_at m first h u.ioa) refl f
-      of_seat NotPlanned p f = no_station p
+      of_seat : (x : Option Seat) → seat_at m u.ca ≡ x → target_in m u x ≡ Skipped → update_of (table_of m) u ≡ none
+      of_seat (Some s) p f = of_spot s.index s.first s.held p (find_at m s.first s.held u.ioa) refl f
+      of_seat None p f = no_station p
 
 -- ---- the target as the code finds it
 
 module _ (m : List ℕ) (u : Update) where
-  pub target_unplanned : seat_at m u.ca ≡ NotPlanned → Skipped ≡ target_at m u
+  pub target_unplanned : seat_at m u.ca ≡ None → Skipped ≡ target_at m u
   unfolding target_at
   target_unplanned e = sym (ap (target_in m u) e)
 
-  module _ (i first h : ℕ) (e : seat_at m u.ca ≡ Here i first h) where
-    pub target_missing : (a : ℕ) → find_at m first h u.ioa ≡ Missing a → Skipped ≡ target_at m u
+  module _ (i first h : ℕ) (e : seat_at m u.ca ≡ here i first h) where
+    pub target_missing : (a : ℕ) → find_at m first h u.ioa ≡ Err a → Skipped ≡ target_at m u
     unfolding target_at
     target_missing a f = sym (ap (target_in m u) e ∙ ap (target_on m u) f)
 
-    pub target_other : (a : ℕ) → find_at m first h u.ioa ≡ Held a → (get_or m a 0 ≡ u.kind → ⊥) → Skipped ≡ target_at m u
+    pub target_other : (a : ℕ) → find_at m first h u.ioa ≡ Ok a → (get_or m a 0 ≡ u.kind → ⊥) → Skipped ≡ target_at m u
     unfolding target_at
     target_other a f n = sym (ap (target_in m u) e ∙ ap (target_on m u) f ∙ simp (ne_eqb _ _ n))
 
-    pub target_here : (a : ℕ) → find_at m first h u.ioa ≡ Held a → get_or m a 0 ≡ u.kind → Place a ≡ target_at m u
+    pub target_here : (a : ℕ) → find_at m first h u.ioa ≡ Ok a → get_or m a 0 ≡ u.kind → Place a ≡ target_at m u
     unfolding target_at
     target_here a f k = sym (ap (target_in m u) e ∙ ap (target_on m u) f ∙ simp (eq-eqb _ _ k))

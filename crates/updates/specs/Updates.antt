@@ -1,5 +1,5 @@
 -- ---- as the code reads: nobody need believe what follows, the laws in proofs/ tie it to `table_after` and `told_by` of `answers`
-use Rattle.std.specs.Prelude.{ℕ, ◌+◌, ◌≤◌, ◌≡◌, List, true, length, take, drop, get_or, eqb}
+use Rattle.std.specs.Prelude.{ℕ, ◌+◌, ◌≤◌, ◌≡◌, List, true, length, take, drop, get_or, eqb, Option, Some, None, Result, Ok, Err}
 use Rattle.limits.specs.Test.{pick}
 use Rattle.limits.specs.Size.{header_octets, address_octets, point_octets}
 use Rattle.octets.specs.Over.{over}
@@ -7,9 +7,6 @@ use Rattle.layout.specs.Layout.{value_offset, value_size}
 use Rattle.asdu.specs.Header.{wire}
 use Rattle.asdu.specs.Puts.{PutsAt}
 use Rattle.lookup.specs.declared.Seat.{Seat}
-use Rattle.lookup.specs.declared.Seat.TheVariants.{Here, NotPlanned}
-use Rattle.lookup.specs.declared.Spot.{Spot}
-use Rattle.lookup.specs.declared.Spot.TheVariants.{Held, Missing}
 use Rattle.lookup.specs.Seats.{seat_at}
 use Rattle.lookup.specs.Find.{find_at}
 use Rattle.table.specs.Memory.{table_of, well_formed}
@@ -25,13 +22,13 @@ UpdateIn m us at = (well_formed m ≡ true) × (at + update_octets ≤ length us
 -- ---- which point an update means
 
 -- the place found, where the point there has the update's type
-abbrev pub target_on : List ℕ → Update → Spot → Target
-target_on m u (Held at) = pick (eqb (get_or m at 0) u.kind) (Place at) Skipped
-target_on m u (Missing at) = Skipped
+abbrev pub target_on : List ℕ → Update → Result ℕ ℕ → Target
+target_on m u (Ok at) = pick (eqb (get_or m at 0) u.kind) (Place at) Skipped
+target_on m u (Err at) = Skipped
 
-abbrev pub target_in : List ℕ → Update → Seat → Target
-target_in m u (Here i first h) = target_on m u (find_at m first h u.ioa)
-target_in m u NotPlanned = Skipped
+abbrev pub target_in : List ℕ → Update → Option Seat → Target
+target_in m u (Some seat) = target_on m u (find_at m seat.first seat.held u.ioa)
+target_in m u None = Skipped
 
 -- the place that an update means
 unfoldable pub target_at : List ℕ → Update → Target

@@ -10,7 +10,6 @@ ghost use Rattle.updates.specs.Updates.{UpdateIn, target_at, stored, most_told, 
 use asdu::cot;
 use layout::VALUE_OFFSET;
 use limits::size::{ADDRESS_OCTETS, HEADER_OCTETS};
-use lookup::{Seat, Spot};
 use output::single;
 
 // ---- the flat form of an update: CA 2, IOA 3, type 1, value 12
@@ -39,12 +38,10 @@ fn can_apply_update(m: &[u8], updates: &[u8], at: usize) -> Target
 {
     let ca = octets::two_at(updates, at);
     let ioa = octets::three_at(updates, at + UPDATE_IOA_OFFSET);
-    let seat = lookup::seat_at(m, ca);
-    let Seat::Here(_, first, held) = seat else {
+    let Some(seat) = lookup::seat_at(m, ca) else {
         return Target::Skipped;
     };
-    let spot = lookup::find(m, first, held, ioa);
-    let Spot::Held(place) = spot else {
+    let Ok(place) = lookup::find(m, seat.first, seat.held, ioa) else {
         return Target::Skipped;
     };
     if m[place] != updates[at + UPDATE_TYPE_OFFSET] {
