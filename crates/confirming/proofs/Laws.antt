@@ -9,13 +9,13 @@ use lib.ListN.{length, take, drop, length-append, length-drop, take-append-drop}
 use lib.Seq.{length-take-le}
 use lib.Dec.{ltb}
 use borrow.Author.Tests.{ltb-true, ltb-false}
+use Rattle.std.specs.Prelude.{Some, None}
 use Rattle.limits.specs.Test.{pick}
 use Rattle.asdu.specs.declared.command.Command.{Command}
 use Rattle.asdu.specs.Header.{asdu_octets, wire}
 use Rattle.asdu.proofs.Laws.{wire_between}
 use Rattle.asdu.proofs.Lengths.{length_confirmation}
 use Rattle.report.specs.declared.Selection.{Selection}
-use Rattle.output.specs.declared.data.Written.TheVariants.{Octets as Wrote, Short}
 use Rattle.output.specs.Data.{arranged, data_of, wrote, written, too_short}
 use Rattle.output.specs.Reach.{reach_of}
 use Rattle.output.proofs.Reached.{reached}
@@ -72,22 +72,22 @@ between m C D T c d ec ed h =
 
 -- ---- what `put_data` answers
 
-pub data_short : (out : List ℕ) (before after : ℕ) (xs : List ℕ) → wrote (length out) before after xs ≡ Short
+pub data_short : (out : List ℕ) (before after : ℕ) (xs : List ℕ) → wrote (length out) before after xs ≡ None
     → (length out < before + (length xs + after)) × (out ≡ written out before after xs)
 unfolding wrote written too_short
 data_short out before after xs e = by_test (ltb (length out) (before + (length xs + after))) refl e
   where
-    by_test : (b : Bool) → ltb (length out) (before + (length xs + after)) ≡ b → pick b Short (Wrote (length xs)) ≡ Short
+    by_test : (b : Bool) → ltb (length out) (before + (length xs + after)) ≡ b → pick b None (Some (length xs)) ≡ None
         → (length out < before + (length xs + after)) × (out ≡ pick (ltb (length out) (before + (length xs + after))) out (over out before xs))
     by_test true t e' = (ltb-true _ _ t, sym (simp t))
     by_test false t e' = let z : ◌≡◌ {A = ℕ} 0 1 = cc in absurd (omega arith)
 
-pub data_full : (out : List ℕ) (before after k : ℕ) (xs : List ℕ) → wrote (length out) before after xs ≡ Wrote k
+pub data_full : (out : List ℕ) (before after k : ℕ) (xs : List ℕ) → wrote (length out) before after xs ≡ Some k
     → (k ≡ length xs) × (before + (length xs + after) ≤ length out) × (written out before after xs ≡ over out before xs)
 unfolding wrote written too_short
 data_full out before after k xs e = by_test (ltb (length out) (before + (length xs + after))) refl e
   where
-    by_test : (b : Bool) → ltb (length out) (before + (length xs + after)) ≡ b → pick b Short (Wrote (length xs)) ≡ Wrote k
+    by_test : (b : Bool) → ltb (length out) (before + (length xs + after)) ≡ b → pick b None (Some (length xs)) ≡ Some k
         → (k ≡ length xs) × (before + (length xs + after) ≤ length out) × (pick (ltb (length out) (before + (length xs + after))) out (over out before xs) ≡ over out before xs)
     by_test true t e' = let z : ◌≡◌ {A = ℕ} 0 1 = cc in absurd (omega arith)
     by_test false t e' = (cc, ltb-false _ _ t, simp t)
@@ -122,7 +122,7 @@ module _ (t : Table) (c : Command) (m types : List ℕ) (cause : ℕ) (sel : Sel
       ap length reported_octets ∙ simp length-append (omega arith)
 
   -- There is no room: nothing is written.
-  pub no_room : wrote (length out) around around asked ≡ Short → (out' : List ℕ) → out' ≡ written out around around asked
+  pub no_room : wrote (length out) around around asked ≡ None → (out' : List ℕ) → out' ≡ written out around around asked
       → Sends (reported t c m types cause sel) out (nothing (Err AnswerShort)) out'
   no_room e out' f =
       let s = data_short out around around asked e in
@@ -131,11 +131,11 @@ module _ (t : Table) (c : Command) (m types : List ℕ) (cause : ℕ) (sel : Sel
       record { answers = z.answers; leaves = f ∙ sym s.1 ∙ z.leaves }
 
   -- There is room for all.
-  pub has_room : (k : ℕ) → wrote (length out) around around asked ≡ Wrote k → around + (k + around) ≤ length out
+  pub has_room : (k : ℕ) → wrote (length out) around around asked ≡ Some k → around + (k + around) ≤ length out
   has_room k e = let s = data_full out around around k asked e in omega (arith, s.0, s.1)
 
   -- And the data, the confirmation, the termination make the whole.
-  pub all_written : (k : ℕ) → wrote (length out) around around asked ≡ Wrote k → (out₁ out₂ out₃ : List ℕ) → out₁ ≡ written out around around asked
+  pub all_written : (k : ℕ) → wrote (length out) around around asked ≡ Some k → (out₁ out₂ out₃ : List ℕ) → out₁ ≡ written out around around asked
       → out₂ ≡ over out₁ 0 (asdu_octets (confirmed c m)) → out₃ ≡ over out₂ (around + k) (asdu_octets (terminated c m))
       → Sends (reported t c m types cause sel) out (given (around + (k + around))) out₃
   all_written k e out₁ out₂ out₃ e₁ e₂ e₃ =

@@ -88,7 +88,7 @@ pub fn report(
         cause: cause,
         ca: command.ca,
     };
-    let output::data::Written::Octets(octets) = output::data::put_data(
+    let Some(octets) = output::data::put_data(
         answer, before, before, table, reach, selection, types, terms,
     ) else {
         return Err(Refusal::AnswerShort);

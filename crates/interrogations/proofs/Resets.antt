@@ -1,4 +1,5 @@
 -- Resetting the places that a common address reaches resets the table's counters. Assumes nothing.
+use Rattle.std.specs.Prelude.{Option, Some, None}
 use mathlib.Core.Path.{◌≡◌, refl, sym, ap, ◌∙◌}
 use mathlib.Core.List.{List}
 use mathlib.Core.Bool.{Bool, true, false}
@@ -12,7 +13,6 @@ use Rattle.table.specs.Memory.{table_of, well_formed}
 use Rattle.table.proofs.Parse.{passed}
 use Rattle.asdu.specs.Header.{global_address}
 use Rattle.lookup.specs.declared.Seat.{Seat}
-use Rattle.lookup.specs.declared.Seat.TheVariants.{Here, NotPlanned}
 use Rattle.lookup.specs.Seats.{seat_at}
 use Rattle.report.specs.declared.Selection.{Selection}
 use Rattle.report.specs.declared.Reach.{Reach}
@@ -28,9 +28,9 @@ module _ (m : List ℕ) (o : Octets m) (w : well_formed m ≡ true) where
   abbrev Resets : ℕ → Selection → Reach → Type 0
   Resets ca sel r = reset_places sel m r.base r.n ≡ holding m (table_of m) (reset_at (table_of m) ca sel)
 
-  at_seat : (ca : ℕ) (sel : Selection) → eqb ca global_address ≡ false → (s : Seat) → seat_at m ca ≡ s → Resets ca sel (seat_reach s)
-  at_seat ca sel e (Here i first h) f = (station_reset_law m ca i first h sel o w f).memory
-  at_seat ca sel e NotPlanned f = let long = (passed m w).top.long in reset_end sel m 64 0 (omega arith) ∙ (unplanned_reset_law m ca sel o w f (eqb-false _ _ e)).1
+  at_seat : (ca : ℕ) (sel : Selection) → eqb ca global_address ≡ false → (s : Option Seat) → seat_at m ca ≡ s → Resets ca sel (seat_reach s)
+  at_seat ca sel e (Some s) f = (station_reset_law m ca s.index s.first s.held sel o w f).memory
+  at_seat ca sel e None f = let long = (passed m w).top.long in reset_end sel m 64 0 (omega arith) ∙ (unplanned_reset_law m ca sel o w f (eqb-false _ _ e)).1
 
   pub reach_reset : (ca : ℕ) (sel : Selection) → Resets ca sel (reach_of m ca)
   unfolding reach_of

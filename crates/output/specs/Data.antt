@@ -1,5 +1,5 @@
 -- The data that are read from places and reported, and what a call writes of them.
-use Rattle.std.specs.Prelude.{ℕ, ◌+◌, ◌≤◌, ◌≡◌, List, Bool, length, ltb}
+use Rattle.std.specs.Prelude.{ℕ, ◌+◌, ◌≤◌, ◌≡◌, List, Bool, length, ltb, Option, None, Some}
 use Rattle.limits.specs.Test.{pick}
 use Rattle.octets.specs.Over.{over}
 use Rattle.asdu.specs.Header.{Asdu}
@@ -15,8 +15,6 @@ use Rattle.report.specs.Order.{by_address}
 use Rattle.chains.specs.Chain.{slots, Links}
 use Rattle.chains.specs.Follow.{octets_on}
 use Rattle.output.specs.Order.{places_in}
-use Rattle.output.specs.declared.data.Written.{Written}
-use Rattle.output.specs.declared.data.Written.TheVariants.{Octets, Short}
 -- Type numbers that a chain can have, passed on.
 unfoldable pub use Rattle.chains.specs.Chain.{Slots}
 
@@ -36,16 +34,16 @@ data_of t types s m r = report t.limit types t.cause t.ca (selected (selects s) 
 unfoldable pub too_short : ℕ → ℕ → ℕ → List ℕ → Bool
 too_short room before after xs = ltb room (before + (length xs + after))
 
--- What comes back.
-unfoldable pub wrote : ℕ → ℕ → ℕ → List ℕ → Written
-wrote room before after xs = pick (too_short room before after xs) Short (Octets (length xs))
+-- What comes back: the octets, or none for want of room.
+unfoldable pub wrote : ℕ → ℕ → ℕ → List ℕ → Option ℕ
+wrote room before after xs = pick (too_short room before after xs) None (Some (length xs))
 
 -- What the memory holds.
 unfoldable pub written : List ℕ → ℕ → ℕ → List ℕ → List ℕ
 written out before after xs = pick (too_short (length out) before after xs) out (over out before xs)
 
 -- Both together.
-abbrev pub Writes : ℕ → ℕ → List ℕ → List ℕ → Written → List ℕ → Type 0
+abbrev pub Writes : ℕ → ℕ → List ℕ → List ℕ → Option ℕ → List ℕ → Type 0
 Writes before after xs out r out' = (r ≡ wrote (length out) before after xs) × (out' ≡ written out before after xs)
 
 -- ---- sizing, as the code runs

@@ -11,13 +11,6 @@ use chains::{link, write};
 use layout::MOST_PLACES;
 use report::{Reach, Selection, Terms};
 
-// What the writer answers: how many octets the data have, or that there is no room for them.
-#[derive(Clone, Copy)]
-pub enum Written {
-    Octets(usize),
-    Short,
-}
-
 // Sizes a report: links the selected places of a reach, in the order of an answer, into chains in memory lent by the caller, and gives its octets.
 pub fn size_report(
     m: &[u8],
@@ -38,7 +31,8 @@ pub fn size_report(
     write::report_octets(limit, types, counts)
 }
 
-// The data of a reach: the report of its selected places, written into `out` after `before` octets if `after` more fit behind it, and not at all if not.
+// The data of a reach: the report of its selected places, written into `out` after `before` octets if `after` more fit behind it, and not at all if not. Gives
+// its octets, or none if there is no room.
 pub fn put_data(
     out: &mut [u8],
     before: usize,
@@ -48,7 +42,7 @@ pub fn put_data(
     s: Selection,
     types: &[u8],
     terms: Terms,
-) -> Written
+) -> Option<usize>
     requires { (before ≤ 65536) × (after ≤ 65536) × PlacesIn m.now reach × TypesOk types.now × TermsOk terms }
     ensures { Writes before after (wire (data_of terms types.now s m.now reach)) out.old result out.new }
 {
@@ -66,7 +60,7 @@ pub fn put_data(
         &mut counts,
     );
     if out.len() < before + (octets + after) {
-        return Written::Short;
+        return None;
     }
     write::put_report(
         &mut out[before..],
@@ -78,5 +72,5 @@ pub fn put_data(
         &next,
         &counts,
     );
-    Written::Octets(octets)
+    Some(octets)
 }

@@ -1,6 +1,5 @@
 -- The laws as an entry has them, over a well-formed memory: what the code counts and writes are the requested ASDUs of the points asked for,
 -- of a planned station, and an address is missing exactly where the points asked for are none. Assumes nothing.
-use Rattle.std.specs.Prelude.{Err, None, Ok, Result}
 use mathlib.Core.Path.{◌≡◌, refl, sym, ap, ◌∙◌}
 use mathlib.Core.List.{List, [], ◌∷◌, ◌++◌, map}
 use mathlib.Core.Bool.{Bool, true, false}
@@ -9,6 +8,7 @@ use Prim.Native.Nat.{ℕ, zero, suc, ◌+◌, ◌*◌, ◌-◌, ◌≤◌, ◌<�
 use native.Mathlib.Omega.{arith}
 use lib.ListN.{length, get_or, length-append}
 use lib.Dec.{eqb}
+use Rattle.std.specs.Prelude.{Option as Asked, Some, None, Result, Ok, Err}
 use Rattle.limits.specs.Test.{pick}
 use Rattle.limits.specs.Size.{header_octets, address_octets, point_octets}
 use Rattle.limits.proofs.Outcomes.{not_both}
@@ -32,8 +32,6 @@ use Rattle.report.specs.Order.{points_of}
 use Rattle.report.specs.Single.{requested_asdu}
 use Rattle.report.proofs.Single.{length_single}
 use Rattle.answers.specs.System.{addresses_in, points_asked, points_read}
-use Rattle.read_data.specs.declared.Asked.{Asked}
-use Rattle.read_data.specs.declared.Asked.TheVariants.{Known, AddressMissing}
 use Rattle.read_data.specs.Reads.{asked_of, together, asked_at, requested_of, requested_at, requested_by}
 
 -- ---- the points asked for, one address after another
@@ -63,9 +61,9 @@ module _ (a : ℕ) (rest : List ℕ) (ps : List Point) where
 -- ---- over rising points
 
 -- what the code counts for the points asked for
-counted : ℕ → Option (List Point) → Asked
-counted ca none = AddressMissing
-counted ca (some ps) = Known (size (map (requested_asdu ca) ps))
+counted : ℕ → Option (List Point) → Asked ℕ
+counted ca none = None
+counted ca (some ps) = Some (size (map (requested_asdu ca) ps))
 
 one_more : (m : List ℕ) (ca at : ℕ) (qs : List Point)
     → 9 + point_octets (get_or m at 0) + size (map (requested_asdu ca) qs) ≡ size (map (requested_asdu ca) (point_at m at ∷ qs))
@@ -90,11 +88,11 @@ module _ (m : List ℕ) (first h ca : ℕ) (asdu : List ℕ) (r : rising 0 (poin
       ps = points_at m first h
 
       by_rest : (p : ℕ) → point_in a ps ≡ some (point_at m p) → (x : Option (List Point)) → points_asked rest ps ≡ x → asked_at m first h asdu (at + 3) n ≡ counted ca x
-          → together (Known (9 + point_octets (get_or m p 0))) (asked_at m first h asdu (at + 3) n) ≡ counted ca (points_asked (a ∷ rest) ps)
+          → together (Some (9 + point_octets (get_or m p 0))) (asked_at m first h asdu (at + 3) n) ≡ counted ca (points_asked (a ∷ rest) ps)
       by_rest p e none f ih =
-          ap (together (Known (9 + point_octets (get_or m p 0)))) ih ∙ ap (counted ca) (sym (asked_not_all a rest ps (point_at m p) e f))
+          ap (together (Some (9 + point_octets (get_or m p 0)))) ih ∙ ap (counted ca) (sym (asked_not_all a rest ps (point_at m p) e f))
       by_rest p e (some qs) f ih =
-          ap (together (Known (9 + point_octets (get_or m p 0)))) ih ∙ ap Known (one_more m ca p qs) ∙ ap (counted ca) (sym (asked_some a rest ps (point_at m p) qs e f))
+          ap (together (Some (9 + point_octets (get_or m p 0)))) ih ∙ ap Some (one_more m ca p qs) ∙ ap (counted ca) (sym (asked_some a rest ps (point_at m p) qs e f))
 
       by_spot : (x : Result ℕ ℕ) → find_at m first h a ≡ x → asked_at m first h asdu (at + 3) n ≡ counted ca (points_asked rest ps)
           → together (asked_of m x) (asked_at m first h asdu (at + 3) n) ≡ counted ca (points_asked (a ∷ rest) ps)
@@ -174,20 +172,20 @@ module _ (m : List ℕ) (i first h : ℕ) (o : Octets m) (w : well_formed m ≡ 
         (ap (λ (ps : List Point). points_asked (addresses_in asdu header_octets c.count) ps) seat_points ∙ f)
 
     -- The octets were counted: every address is known, and these are the points.
-    pub requested_law : (octets : ℕ) → Known octets ≡ asked_at m first h asdu header_octets c.count → Requested m first h c asdu octets
+    pub requested_law : (octets : ℕ) → Some octets ≡ asked_at m first h asdu header_octets c.count → Requested m first h c asdu octets
     unfolding counted
     requested_law octets f = by_asked (points_read c asdu (table_of m)) refl (f ∙ counted_is)
       where
-        by_asked : (x : Option (List Point)) → points_read c asdu (table_of m) ≡ x → Known octets ≡ counted c.ca x → Requested m first h c asdu octets
+        by_asked : (x : Option (List Point)) → points_read c asdu (table_of m) ≡ x → Some octets ≡ counted c.ca x → Requested m first h c asdu octets
         by_asked none d g = let z : ◌≡◌ {A = ℕ} 0 1 = cc in absurd (omega arith)
         by_asked (some qs) d g = record { points = qs; is_asked = d; is_octets = cc; is_data = data_is qs d }
 
     -- An address is missing: no points are asked for.
-    pub missing_address_law : AddressMissing ≡ asked_at m first h asdu header_octets c.count → points_read c asdu (table_of m) ≡ none
+    pub missing_address_law : None ≡ asked_at m first h asdu header_octets c.count → points_read c asdu (table_of m) ≡ none
     unfolding counted
     missing_address_law f = by_asked (points_read c asdu (table_of m)) refl (f ∙ counted_is)
       where
-        by_asked : (x : Option (List Point)) → points_read c asdu (table_of m) ≡ x → AddressMissing ≡ counted c.ca x → points_read c asdu (table_of m) ≡ none
+        by_asked : (x : Option (List Point)) → points_read c asdu (table_of m) ≡ x → None ≡ counted c.ca x → points_read c asdu (table_of m) ≡ none
         by_asked none d g = d
         by_asked (some qs) d g = let z : ◌≡◌ {A = ℕ} 0 1 = cc in absurd (omega arith)
 

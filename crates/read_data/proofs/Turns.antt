@@ -1,5 +1,4 @@
 -- The turns of the two loops over a command's addresses, and where a place found lies. Assumes nothing.
-use Rattle.std.specs.Prelude.{Err, Ok, Result}
 use mathlib.Core.Path.{◌≡◌, refl, sym, ap, ◌∙◌}
 use mathlib.Core.List.{List, [], ◌++◌}
 use mathlib.Core.Bool.{Bool, true, false}
@@ -8,6 +7,7 @@ use native.Mathlib.Omega.{arith}
 use lib.ListN.{get_or}
 use lib.Dec.{ltb, eqb}
 use borrow.Author.Tests.{ltb-true}
+use Rattle.std.specs.Prelude.{Option, Some, None, Result, Ok, Err}
 use Rattle.limits.specs.Test.{◌&◌, pick}
 use Rattle.limits.specs.Size.{point_octets}
 use Rattle.limits.proofs.Tests.{both}
@@ -16,8 +16,6 @@ use Rattle.octets.specs.Number.{three}
 use Rattle.asdu.specs.Header.{wire}
 use Rattle.asdu.proofs.Laws.{wire_none, wire_append}
 use Rattle.lookup.specs.Find.{ioa_at, halve, spot_at, find_at}
-use Rattle.read_data.specs.declared.Asked.{Asked}
-use Rattle.read_data.specs.declared.Asked.TheVariants.{Known, AddressMissing}
 use Rattle.read_data.specs.Reads.{asked_of, together, asked_at, requested_of, requested_at}
 
 -- ---- one address
@@ -38,7 +36,7 @@ held_inside m first n ioa at e = by_test (ltb j n & eqb (ioa_at m first j) ioa) 
     by_test false t f = let z : ◌≡◌ {A = ℕ} 0 1 = cc in absurd (omega arith)
 
 -- An ASDU of one point has at most 21 octets.
-pub asked_small : (m : List ℕ) (x : Result ℕ ℕ) (k : ℕ) → Known k ≡ asked_of m x → k ≤ 21
+pub asked_small : (m : List ℕ) (x : Result ℕ ℕ) (k : ℕ) → Some k ≡ asked_of m x → k ≤ 21
 unfolding asked_of
 asked_small m (Ok at) k e =
     let p = point_at_most (get_or m at 0) in
@@ -48,48 +46,68 @@ asked_small m (Err at) k e = let z : ◌≡◌ {A = ℕ} 0 1 = cc in absurd (ome
 
 -- ---- the octets
 
-pub together_none : (r : Asked) → together (Known 0) r ≡ r
-together_none (Known k) = let e : 0 + k ≡ k = omega arith in ap Known e
-together_none AddressMissing = refl
+pub together_none : (r : Option ℕ) → together (Some 0) r ≡ r
+together_none (Some k) = let e : 0 + k ≡ k = omega arith in ap Some e
+together_none None = refl
 
-together_more : (a b : ℕ) (r : Asked) → together (Known a) (together (Known b) r) ≡ together (Known (a + b)) r
-together_more a b (Known k) = let e : a + (b + k) ≡ a + b + k = omega arith in ap Known e
-together_more a b AddressMissing = refl
+together_more : (a b : ℕ) (r : Option ℕ) → together (Some a) (together (Some b) r) ≡ together (Some (a + b)) r
+together_more a b (Some k) = let e : a + (b + k) ≡ a + b + k = omega arith in ap Some e
+together_more a b None = refl
 
-module _ (m : List ℕ) (first h : ℕ) (asdu : List ℕ) (at n : ℕ) where
-  module _ (left : 0 < n) where
-    one_more : n ≡ suc (n - 1)
+-- the n addresses of a command from octet `at` on, of which the first i are done
+module _ (m : List ℕ) (first h : ℕ) (asdu : List ℕ) (at n i : ℕ) where
+  module _ (more : i < n) where
+    one_more : n - i ≡ suc (n - (i + 1))
     one_more = omega arith
 
-    pub asked_on : (octets k : ℕ) → Known k ≡ asked_of m (find_at m first h (three asdu at))
-        → together (Known octets) (asked_at m first h asdu at n) ≡ together (Known (octets + k)) (asked_at m first h asdu (at + 3) (n - 1))
+    further : at + 3 * i + 3 ≡ at + 3 * (i + 1)
+    further = omega arith
+
+    pub asked_on : (octets k : ℕ) → Some k ≡ asked_of m (find_at m first h (three asdu (at + 3 * i)))
+        → together (Some octets) (asked_at m first h asdu (at + 3 * i) (n - i)) ≡ together (Some (octets + k)) (asked_at m first h asdu (at + 3 * (i + 1)) (n - (i + 1)))
     unfolding asked_at
     asked_on octets k e =
-        ap (λ (x : ℕ). together (Known octets) (asked_at m first h asdu at x)) one_more
-        ∙ ap (λ (x : Asked). together (Known octets) (together x (asked_at m first h asdu (at + 3) (n - 1)))) (sym e)
-        ∙ together_more octets k (asked_at m first h asdu (at + 3) (n - 1))
+        ap (λ (x : ℕ). together (Some octets) (asked_at m first h asdu (at + 3 * i) x)) one_more
+        ∙ (λ j. together (Some octets) (together (sym e j) (asked_at m first h asdu (further j) (n - (i + 1)))))
+        ∙ together_more octets k (asked_at m first h asdu (at + 3 * (i + 1)) (n - (i + 1)))
 
-    pub asked_missing : (octets : ℕ) → AddressMissing ≡ asked_of m (find_at m first h (three asdu at))
-        → together (Known octets) (asked_at m first h asdu at n) ≡ AddressMissing
+    pub asked_missing : (octets : ℕ) → None ≡ asked_of m (find_at m first h (three asdu (at + 3 * i)))
+        → together (Some octets) (asked_at m first h asdu (at + 3 * i) (n - i)) ≡ None
     unfolding asked_at
     asked_missing octets e =
-        ap (λ (x : ℕ). together (Known octets) (asked_at m first h asdu at x)) one_more
-        ∙ ap (λ (x : Asked). together (Known octets) (together x (asked_at m first h asdu (at + 3) (n - 1)))) (sym e)
+        ap (λ (x : ℕ). together (Some octets) (asked_at m first h asdu (at + 3 * i) x)) one_more
+        ∙ ap (λ (x : Option ℕ). together (Some octets) (together x (asked_at m first h asdu (at + 3 * i + 3) (n - (i + 1))))) (sym e)
 
     pub requested_on : (ca : ℕ)
-        → wire (requested_at m first h ca asdu at n) ≡ wire (requested_of m ca (find_at m first h (three asdu at))) ++ wire (requested_at m first h ca asdu (at + 3) (n - 1))
+        → wire (requested_at m first h ca asdu (at + 3 * i) (n - i))
+        ≡ wire (requested_of m ca (find_at m first h (three asdu (at + 3 * i)))) ++ wire (requested_at m first h ca asdu (at + 3 * (i + 1)) (n - (i + 1)))
     unfolding requested_at
     requested_on ca =
-        ap (λ (x : ℕ). wire (requested_at m first h ca asdu at x)) one_more
-        ∙ wire_append (requested_of m ca (find_at m first h (three asdu at))) (requested_at m first h ca asdu (at + 3) (n - 1))
+        ap (λ (x : ℕ). wire (requested_at m first h ca asdu (at + 3 * i) x)) one_more
+        ∙ wire_append (requested_of m ca (find_at m first h (three asdu (at + 3 * i)))) (requested_at m first h ca asdu (at + 3 * i + 3) (n - (i + 1)))
+        ∙ ap (λ (x : ℕ). wire (requested_of m ca (find_at m first h (three asdu (at + 3 * i)))) ++ wire (requested_at m first h ca asdu x (n - (i + 1)))) further
 
-  pub asked_end : (octets : ℕ) → n ≤ 0 → together (Known octets) (asked_at m first h asdu at n) ≡ Known octets
+  pub asked_end : (octets : ℕ) → n ≤ i → together (Some octets) (asked_at m first h asdu (at + 3 * i) (n - i)) ≡ Some octets
   unfolding asked_at
   asked_end octets e =
-      let z : n ≡ 0 = omega arith in
+      let z : n - i ≡ 0 = omega arith in
       let o : octets + 0 ≡ octets = omega arith in
-      ap (λ (x : ℕ). together (Known octets) (asked_at m first h asdu at x)) z ∙ ap Known o
+      ap (λ (x : ℕ). together (Some octets) (asked_at m first h asdu (at + 3 * i) x)) z ∙ ap Some o
 
-  pub requested_end : (ca : ℕ) → n ≤ 0 → wire (requested_at m first h ca asdu at n) ≡ []
+  pub requested_end : (ca : ℕ) → n ≤ i → wire (requested_at m first h ca asdu (at + 3 * i) (n - i)) ≡ []
   unfolding requested_at
-  requested_end ca e = let z : n ≡ 0 = omega arith in ap (λ (x : ℕ). wire (requested_at m first h ca asdu at x)) z ∙ wire_none
+  requested_end ca e = let z : n - i ≡ 0 = omega arith in ap (λ (x : ℕ). wire (requested_at m first h ca asdu (at + 3 * i) x)) z ∙ wire_none
+
+-- before the first
+pub asked_start : (m : List ℕ) (first h : ℕ) (asdu : List ℕ) (at n : ℕ) → asked_at m first h asdu at n ≡ together (Some 0) (asked_at m first h asdu (at + 3 * 0) (n - 0))
+asked_start m first h asdu at n =
+    let z : at ≡ at + 3 * 0 = omega arith in
+    let y : n ≡ n - 0 = omega arith in
+    sym (together_none (asked_at m first h asdu at n)) ∙ (λ j. together (Some 0) (asked_at m first h asdu (z j) (y j)))
+
+pub requested_start : (m : List ℕ) (first h ca : ℕ) (asdu : List ℕ) (at n : ℕ)
+    → wire (requested_at m first h ca asdu at n) ≡ wire (requested_at m first h ca asdu (at + 3 * 0) (n - 0))
+requested_start m first h ca asdu at n =
+    let z : at ≡ at + 3 * 0 = omega arith in
+    let y : n ≡ n - 0 = omega arith in
+    λ j. wire (requested_at m first h ca asdu (z j) (y j))

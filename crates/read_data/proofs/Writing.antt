@@ -1,11 +1,11 @@
 -- The turns of the loop that writes: each requested ASDU goes in where the one before ended. Assumes nothing.
-use Rattle.std.specs.Prelude.{Err, Ok, Result}
 use mathlib.Core.Path.{◌≡◌, sym, ap, ◌∙◌, subst}
 use mathlib.Core.List.{List, [], ◌++◌}
-use Prim.Native.Nat.{ℕ, ◌+◌, ◌-◌, ◌≤◌, ◌<◌}
+use Prim.Native.Nat.{ℕ, ◌+◌, ◌*◌, ◌-◌, ◌≤◌, ◌<◌}
 use native.Mathlib.Omega.{arith}
 use native.Mathlib.Nat.{add-zero}
 use lib.ListN.{length, length-append, take-append-drop}
+use Rattle.std.specs.Prelude.{Result, Ok, Err}
 use Rattle.octets.specs.Over.{over}
 use Rattle.octets.specs.Number.{three}
 use Rattle.asdu.specs.Header.{asdu_octets, wire}
@@ -37,34 +37,34 @@ nothing_found m out ca o at x e =
     let l : length (wire (requested_of m ca x)) ≡ 0 = ap length q in
     (omega arith, sym (ap (over out o) q ∙ over_nothing out o))
 
-module _ (m : List ℕ) (first h ca : ℕ) (asdu out₀ whole out : List ℕ) (from o at left : ℕ)
-    (log : Log out₀ from whole out o (wire (requested_at m first h ca asdu at left))) (fits : from + length whole ≤ length out₀) where
-  module _ (more : 0 < left) where
+module _ (m : List ℕ) (first h ca : ℕ) (asdu out₀ whole out : List ℕ) (at n i from o : ℕ)
+    (log : Log out₀ from whole out o (wire (requested_at m first h ca asdu (at + 3 * i) (n - i)))) (fits : from + length whole ≤ length out₀) where
+  module _ (more : i < n) where
     abbrev next : List ℕ
-    next = wire (requested_of m ca (find_at m first h (three asdu at)))
+    next = wire (requested_of m ca (find_at m first h (three asdu (at + 3 * i))))
 
     -- The next one fits.
-    pub next_fits : o + size (requested_of m ca (find_at m first h (three asdu at))) ≤ length out
+    pub next_fits : o + size (requested_of m ca (find_at m first h (three asdu (at + 3 * i)))) ≤ length out
     next_fits =
-        let r : o + size (requested_at m first h ca asdu at left) ≤ length out = log_room out₀ whole out _ from o log (omega arith) in
-        let e : size (requested_at m first h ca asdu at left) ≡ length next + size (requested_at m first h ca asdu (at + 3) (left - 1)) =
-        ap length (requested_on m first h asdu at left more ca) ∙ length-append next _ in
+        let r : o + size (requested_at m first h ca asdu (at + 3 * i) (n - i)) ≤ length out = log_room out₀ whole out _ from o log (omega arith) in
+        let e : size (requested_at m first h ca asdu (at + 3 * i) (n - i)) ≡ length next + size (requested_at m first h ca asdu (at + 3 * (i + 1)) (n - (i + 1))) =
+        ap length (requested_on m first h asdu at n i more ca) ∙ length-append next _ in
         omega arith
 
     -- It goes in.
-    pub next_in : (ioa r : ℕ) (out' : List ℕ) → ioa ≡ three asdu at → PutsAt o (wire (requested_of m ca (find_at m first h ioa))) out r out'
-        → Log out₀ from whole out' r (wire (requested_at m first h ca asdu (at + 3) (left - 1)))
-    next_in ioa r out' i p =
-        let todo : List ℕ = wire (requested_at m first h ca asdu (at + 3) (left - 1)) in
-        let l : Log out₀ from whole out o (next ++ todo) = subst (λ (x : List ℕ). Log out₀ from whole out o x) (requested_on m first h asdu at left more ca) log in
+    pub next_in : (ioa r : ℕ) (out' : List ℕ) → ioa ≡ three asdu (at + 3 * i) → PutsAt o (wire (requested_of m ca (find_at m first h ioa))) out r out'
+        → Log out₀ from whole out' r (wire (requested_at m first h ca asdu (at + 3 * (i + 1)) (n - (i + 1))))
+    next_in ioa r out' q p =
+        let todo : List ℕ = wire (requested_at m first h ca asdu (at + 3 * (i + 1)) (n - (i + 1))) in
+        let l : Log out₀ from whole out o (next ++ todo) = subst (λ (x : List ℕ). Log out₀ from whole out o x) (requested_on m first h asdu at n i more ca) log in
         let s : Log out₀ from whole (over out o next) (o + length next) todo = log_step out₀ whole out next todo from o l next_fits in
-        let er' : r ≡ o + length next = p.0 ∙ ap (λ (x : ℕ). o + size (requested_of m ca (find_at m first h x))) i in
-        let eo' : out' ≡ over out o next = p.1 ∙ ap (λ (x : ℕ). over out o (wire (requested_of m ca (find_at m first h x)))) i in
+        let er' : r ≡ o + length next = p.0 ∙ ap (λ (x : ℕ). o + size (requested_of m ca (find_at m first h x))) q in
+        let eo' : out' ≡ over out o next = p.1 ∙ ap (λ (x : ℕ). over out o (wire (requested_of m ca (find_at m first h x)))) q in
         subst (λ (x : ℕ). Log out₀ from whole out' x todo) (sym er') (subst (λ (x : List ℕ). Log out₀ from whole x (o + length next) todo) (sym eo') s)
 
   -- All is in.
-  pub all_in : left ≤ 0 → PutsAt from whole out₀ o out
+  pub all_in : n ≤ i → PutsAt from whole out₀ o out
   all_in none_left =
-      let l : Log out₀ from whole out o [] = subst (λ (x : List ℕ). Log out₀ from whole out o x) (requested_end m first h asdu at left ca none_left) log in
+      let l : Log out₀ from whole out o [] = subst (λ (x : List ℕ). Log out₀ from whole out o x) (requested_end m first h asdu at n i ca none_left) log in
       let e = log_end out₀ whole out from o l (omega arith) in
       (let z = e.0 in omega arith, e.1)

@@ -1,5 +1,5 @@
 -- ---- as the code runs: nobody need believe what follows, the laws in proofs/Entry.antt tie it to `points_asked` and `requested_asdu`
-use Rattle.std.specs.Prelude.{ℕ, zero, suc, ◌+◌, List, [], ◌∷◌, ◌++◌, get_or, Err, Ok, Result}
+use Rattle.std.specs.Prelude.{ℕ, zero, suc, ◌+◌, List, [], ◌∷◌, ◌++◌, get_or, Option, Some, None, Result, Ok, Err}
 use Rattle.limits.specs.Size.{point_octets, header_octets, address_octets}
 use Rattle.octets.specs.Number.{three}
 use Rattle.model.specs.Place.{point_at}
@@ -8,23 +8,21 @@ use Rattle.asdu.specs.declared.command.Command.{Command}
 use Rattle.asdu.specs.Command.{first_element}
 use Rattle.lookup.specs.Find.{find_at}
 use Rattle.report.specs.Single.{requested_asdu}
-use Rattle.read_data.specs.declared.Asked.{Asked}
-use Rattle.read_data.specs.declared.Asked.TheVariants.{Known, AddressMissing}
 
--- the octets of the requested ASDU of the point at a place: header, address and element
-unfoldable pub asked_of : List ℕ → Result ℕ ℕ → Asked
-asked_of m (Ok at) = Known (first_element + point_octets (get_or m at 0))
-asked_of m (Err at) = AddressMissing
+-- the octets of the requested ASDU of the point at a place: header, address and element; none where no point stands
+unfoldable pub asked_of : List ℕ → Result ℕ ℕ → Option ℕ
+asked_of m (Ok at) = Some (first_element + point_octets (get_or m at 0))
+asked_of m (Err at) = None
 
 -- both together, missing where one is
-abbrev pub together : Asked → Asked → Asked
-together (Known a) (Known b) = Known (a + b)
-together (Known a) AddressMissing = AddressMissing
-together AddressMissing b = AddressMissing
+abbrev pub together : Option ℕ → Option ℕ → Option ℕ
+together (Some a) (Some b) = Some (a + b)
+together (Some a) None = None
+together None b = None
 
 -- the octets for the n addresses from `at` of a command, asked of the h places from `first`
-unfoldable pub asked_at : List ℕ → ℕ → ℕ → List ℕ → ℕ → ℕ → Asked
-asked_at m first h asdu at zero = Known 0
+unfoldable pub asked_at : List ℕ → ℕ → ℕ → List ℕ → ℕ → ℕ → Option ℕ
+asked_at m first h asdu at zero = Some 0
 asked_at m first h asdu at (suc n) = together (asked_of m (find_at m first h (three asdu at))) (asked_at m first h asdu (at + address_octets) n)
 
 -- the requested ASDU of the point at a place

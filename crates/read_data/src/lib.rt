@@ -15,42 +15,30 @@ use asdu::command::Command;
 use asdu::cot::REQUEST;
 use limits::size::{ADDRESS_OCTETS, HEADER_OCTETS};
 
-// What a read command asks for: the octets of all requested ASDUs together, or an address that no point has.
-#[derive(Clone, Copy)]
-pub enum Asked {
-    Known(usize),
-    AddressMissing,
-}
-
-// The octets of the requested ASDU of the point with an IOA among the h places from `first`: header, address and element.
-fn found_octets(m: &[u8], first: usize, h: usize, ioa: usize) -> Asked
+// The octets of the requested ASDU of the point with an IOA among the h places from `first`: header, address and element; none if no point has the IOA.
+#[tactic(auto, using(crate::proofs::Turns::held_inside), unfolding(crate::specs::Reads::asked_of))]
+fn found_octets(m: &[u8], first: usize, h: usize, ioa: usize) -> Option<usize>
     requires { first + place_size * h ≤ length m.now }
     ensures { result ≡ asked_of m.now (find_at m.now first h ioa) }
 {
-    match lookup::find(m, first, h, ioa) {
-        Ok(at) => Asked::Known(HEADER_OCTETS + ADDRESS_OCTETS + limits::size::point_octets(m[at])),
-        Err(_) => Asked::AddressMissing,
-    }
+    let Ok(at) = lookup::find(m, first, h, ioa) else {
+        return None;
+    };
+    Some(HEADER_OCTETS + ADDRESS_OCTETS + limits::size::point_octets(m[at]))
 }
 
-// The octets of the requested ASDUs of a command's objects, repeats included, from the h places from `first`.
-pub fn read_octets(m: &[u8], first: usize, h: usize, command: Command, asdu: &[u8]) -> Asked
+// The octets of the requested ASDUs of a command's objects, repeats included, from the h places from `first`; none if an object has an address that no
+// point has.
+pub fn read_octets(m: &[u8], first: usize, h: usize, command: Command, asdu: &[u8]) -> Option<usize>
     requires { (first + place_size * h ≤ length m.now) × (object_at 0 command.count ≤ length asdu.now) × (command.count ≤ count_limit) }
     ensures { result ≡ asked_at m.now first h asdu.now header_octets command.count }
 {
     let mut octets = 0;
-    let mut at = HEADER_OCTETS;
-    let mut left = command.count;
-    while 0 < left {
-        let ioa = octets::three_at(asdu, at);
-        let Asked::Known(more) = found_octets(m, first, h, ioa) else {
-            return Asked::AddressMissing;
-        };
-        octets += more;
-        at += ADDRESS_OCTETS;
-        left -= 1;
+    for i in 0..usize::from(command.count) {
+        let ioa = octets::three_at(asdu, HEADER_OCTETS + ADDRESS_OCTETS * i);
+        octets += found_octets(m, first, h, ioa)?;
     }
-    Asked::Known(octets)
+    Some(octets)
 }
 
 // Writes the requested ASDU of the point with an IOA into what remains of `out` after `o`, and gives the place after its last octet.
@@ -88,13 +76,9 @@ pub fn put_requested(
     ensures { PutsAt from (wire (requested_by m.now first h command asdu.now)) out.old result out.new }
 {
     let mut o = from;
-    let mut at = HEADER_OCTETS;
-    let mut left = command.count;
-    while 0 < left {
-        let ioa = octets::three_at(asdu, at);
+    for i in 0..usize::from(command.count) {
+        let ioa = octets::three_at(asdu, HEADER_OCTETS + ADDRESS_OCTETS * i);
         o = put_found(out, o, m, first, h, ioa, command.ca);
-        at += ADDRESS_OCTETS;
-        left -= 1;
     }
     o
 }

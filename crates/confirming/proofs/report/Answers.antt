@@ -22,7 +22,7 @@ use Rattle.output.proofs.Reached.{reached}
 use Rattle.confirming.proofs.Laws.{data_is, no_room, has_room, all_written}
 use native.Mathlib.Omega.{arith}
 use Rattle.confirming.proofs.report.Goals as goal
-use Rattle.confirming.proofs.report.Goals.{After-put_data, In-Octets}
+use Rattle.confirming.proofs.report.Goals.{After-put_data, In-Some}
 
 -- what stands between confirmation and termination
 abbrev data_in : (t types : List ℕ) (cause ca : ℕ) → Selection → List ℕ
@@ -46,13 +46,13 @@ same_data c =
     (e.0 ∙ ap (wrote (length out) (first_element + c.args.command.element) (first_element + c.args.command.element)) d, e.1 ∙ ap (written out (first_element + c.args.command.element) (first_element + c.args.command.element)) d)
 
 -- the whole fits
-room : (c : In-Octets)
+room : (c : In-Some)
     → c.put_data.result ≡ wrote (length c.args.answer.now) (first_element + c.args.command.element) (first_element + c.args.command.element) (data_in c.args.table.now c.args.types.now c.args.cause c.args.command.ca c.args.selection)
-    → (first_element + c.args.command.element) + (c.in-Octets.octets + (first_element + c.args.command.element)) ≤ length c.args.answer.now
+    → (first_element + c.args.command.element) + (c.in-Some.octets + (first_element + c.args.command.element)) ≤ length c.args.answer.now
 room c d =
     let a = c.args in
     has_room (table_of a.table.now) a.command a.asdu.now a.types.now a.cause a.selection a.answer.now c.requires.3.1 _
-    (sym d ∙ c.in-Octets.is)
+    (sym d ∙ c.in-Some.is)
 
 pub reach_of-reach-requires : goal.reach_of-reach-requires
 reach_of-reach-requires c =
@@ -81,28 +81,28 @@ returns-in_default c =
 
 pub put_confirmation-requires : goal.put_confirmation-requires
 put_confirmation-requires c =
-    let fits = room (goal.at.put_confirmation-requires c).In-Octets (same_data (goal.at.put_confirmation-requires c).After-put_data).0 in
+    let fits = room (goal.at.put_confirmation-requires c).In-Some (same_data (goal.at.put_confirmation-requires c).After-put_data).0 in
     let l = length_confirmation c.args.command c.args.asdu.now 7 false c.requires.3.1 in
     (omega arith, c.requires.3.1, omega arith)
 
 pub overflow_add-before-3 : goal.overflow_add-before-3
 overflow_add-before-3 c =
-    let fits = room (goal.at.overflow_add-before-3 c).In-Octets (same_data (goal.at.overflow_add-before-3 c).After-put_data).0 in
+    let fits = room (goal.at.overflow_add-before-3 c).In-Some (same_data (goal.at.overflow_add-before-3 c).After-put_data).0 in
     omega arith
 
 pub put_termination-requires : goal.put_termination-requires
 put_termination-requires c =
-    let fits = room (goal.at.put_termination-requires c).In-Octets (same_data (goal.at.put_termination-requires c).After-put_data).0 in
+    let fits = room (goal.at.put_termination-requires c).In-Some (same_data (goal.at.put_termination-requires c).After-put_data).0 in
     (c.requires.3, omega arith)
 
 pub overflow_add-octets : goal.overflow_add-octets
 overflow_add-octets c =
-    let fits = room (goal.at.overflow_add-octets c).In-Octets (same_data (goal.at.overflow_add-octets c).After-put_data).0 in
+    let fits = room (goal.at.overflow_add-octets c).In-Some (same_data (goal.at.overflow_add-octets c).After-put_data).0 in
     omega arith
 
 pub overflow_add-before-4 : goal.overflow_add-before-4
 overflow_add-before-4 c =
-    let fits = room (goal.at.overflow_add-before-4 c).In-Octets (same_data (goal.at.overflow_add-before-4 c).After-put_data).0 in
+    let fits = room (goal.at.overflow_add-before-4 c).In-Some (same_data (goal.at.overflow_add-before-4 c).After-put_data).0 in
     omega arith
 
 pub returns : goal.returns
@@ -110,4 +110,4 @@ returns c =
     let d = same_data (goal.at.returns c).After-put_data in
     let a = c.args in
     rw c.given.ensures
-    (all_written (table_of a.table.now) a.command a.asdu.now a.types.now a.cause a.selection a.answer.now c.requires.3.1 _ (sym d.0 ∙ c.in-Octets.is) _ _ _ d.1 c.put_confirmation.ensures.1 c.put_termination.ensures)
+    (all_written (table_of a.table.now) a.command a.asdu.now a.types.now a.cause a.selection a.answer.now c.requires.3.1 _ (sym d.0 ∙ c.in-Some.is) _ _ _ d.1 c.put_confirmation.ensures.1 c.put_termination.ensures)

@@ -1,15 +1,12 @@
 -- What is written and what is to come are the whole at each turn.
-use Prim.Native.Nat.{◌+◌, ◌*◌, ◌≤◌}
-use lib.ListN.{length}
-use Rattle.limits.specs.Size.{address_octets}
+use Prim.Native.Nat.{◌+◌, ◌*◌, ◌-◌}
+use Rattle.limits.specs.Size.{header_octets, address_octets}
 use Rattle.asdu.specs.Header.{wire}
 use Rattle.octets.proofs.Log.{Log}
 use Rattle.read_data.specs.Reads.{requested_at, requested_by}
 use Rattle.read_data.proofs.put_requested.Given as goal
 
-abbrev pub invariant-loop-left : goal.invariant-loop-left
-invariant-loop-left l =
-    Log l.initial.out l.from (wire (requested_by l.m l.first l.h l.command l.asdu)) l.out l.o (wire (requested_at l.m l.first l.h l.command.ca l.asdu l.at l.left)) × (l.at + address_octets * l.left ≤ length l.asdu)
-
-abbrev pub decreases-loop-left : goal.decreases-loop-left
-decreases-loop-left l = l.left
+abbrev pub invariant-loop-i : goal.invariant-loop-i
+invariant-loop-i l =
+    Log l.initial.out l.from (wire (requested_by l.m l.first l.h l.command l.asdu)) l.out l.o
+    (wire (requested_at l.m l.first l.h l.command.ca l.asdu (header_octets + address_octets * l.i) (l.command.count - l.i)))

@@ -3,38 +3,40 @@ use mathlib.Core.Path.{sym, ap, ◌∙◌}
 use Prim.Native.Nat.{ℕ}
 use Rattle.lookup.specs.Find.{find_at}
 use Rattle.read_data.specs.Reads.{asked_of}
-use Rattle.read_data.proofs.Turns.{asked_small, together_none, asked_on, asked_missing, asked_end}
+use Rattle.read_data.proofs.Turns.{asked_small, asked_start, asked_on, asked_missing, asked_end}
 use Rattle.read_data.proofs.read_octets.Goals as goal
 
-pub loop-left-init : goal.loop-left-init
-loop-left-init c = (sym (together_none _), omega arith, omega arith, omega arith)
+pub loop-i-init : goal.loop-i-init
+loop-i-init c =
+    let a = c.args in
+    (asked_start a.m.now a.first a.h a.asdu.now 6 a.command.count, omega arith)
 
-pub returns-in_default : goal.returns-in_default
-returns-in_default c =
+pub returns-in_err-octets : goal.returns-in_err-octets
+returns-in_err-octets c =
     let a = c.args in
     let m = a.m.now in
-    let l = c.loop-left in
-    let e = sym c.in_default.is ∙ c.found_octets.ensures ∙ ap (λ (x : ℕ). asked_of m (find_at m a.first a.h x)) c.three_at-ioa.ensures.0 in
-    sym (l.invariant.0 ∙ asked_missing m a.first a.h a.asdu.now l.at l.left (omega arith) l.octets e)
+    let l = c.loop-i in
+    let e = sym c.in_err-octets.was ∙ c.found_octets.ensures ∙ ap (λ (x : ℕ). asked_of m (find_at m a.first a.h x)) c.three_at-ioa.ensures.0 in
+    c.from_residual.ensures ∙ sym (l.invariant.0 ∙ asked_missing m a.first a.h a.asdu.now 6 a.command.count l.i (omega arith) l.octets e)
 
 pub overflow_add-octets : goal.overflow_add-octets
 overflow_add-octets c =
     let a = c.args in
-    let s = asked_small a.m.now _ _ (sym c.in-Known.is ∙ c.found_octets.ensures) in
+    let s = asked_small a.m.now _ _ (sym c.in_ok-octets.was ∙ c.found_octets.ensures) in
     omega arith
 
-pub loop-left-preserved : goal.loop-left-preserved
-loop-left-preserved c =
+pub loop-i-preserved : goal.loop-i-preserved
+loop-i-preserved c =
     let a = c.args in
     let m = a.m.now in
-    let l = c.loop-left in
-    let k = sym c.in-Known.is ∙ c.found_octets.ensures in
+    let l = c.loop-i in
+    let k = sym c.in_ok-octets.was ∙ c.found_octets.ensures in
     let s = asked_small m _ _ k in
     let e = k ∙ ap (λ (x : ℕ). asked_of m (find_at m a.first a.h x)) c.three_at-ioa.ensures.0 in
-    (l.invariant.0 ∙ asked_on m a.first a.h a.asdu.now l.at l.left (omega arith) l.octets _ e, omega arith, omega arith, omega arith)
+    (l.invariant.0 ∙ asked_on m a.first a.h a.asdu.now 6 a.command.count l.i (omega arith) l.octets _ e, omega arith)
 
 pub returns : goal.returns
 returns c =
     let a = c.args in
-    let l = c.loop-left in
-    sym (l.invariant.0 ∙ asked_end a.m.now a.first a.h a.asdu.now l.at l.left l.octets (omega arith))
+    let l = c.loop-i in
+    sym (l.invariant.0 ∙ asked_end a.m.now a.first a.h a.asdu.now 6 a.command.count l.i l.octets (omega arith))
