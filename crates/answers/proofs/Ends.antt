@@ -10,7 +10,7 @@ use native.Mathlib.Nat.{zero-add}
 use lib.ListN.{length, drop}
 use borrow.Author.Tests.{le-leb, lt-leb, leb-true, leb-false}
 use Rattle.limits.specs.Test.{pick}
-use Rattle.std.specs.Prelude.{Err}
+use Rattle.std.specs.Prelude.{Result, Err}
 use Rattle.limits.specs.Outcome.{Outcome, done, is_done}
 use Rattle.limits.specs.declared.outcome.Refusal.TheVariants.{TableNotWellFormed, AnswerShort}
 use Rattle.octets.specs.Number.{Octets}
@@ -22,7 +22,9 @@ use Rattle.table.specs.Table.{Table}
 use Rattle.table.specs.Memory.{table_of, well_formed, parse}
 use Rattle.table.proofs.Parse.{passed, printed, parse_some, parse_none}
 use Rattle.registry.specs.Effect.{holding}
-use Rattle.answers.specs.Said.{Answered, Said, Lent, lent, says, size, fits, fronted, outcome_with, answered_from, lent_from, Leaves, as_it_is, nothing, given, sent, left, Sends, with_table}
+use Rattle.answers.specs.declared.Written.{Written}
+use Rattle.limits.specs.declared.outcome.Refusal.{Refusal}
+use Rattle.answers.specs.Said.{Answered, answered, Said, Lent, lent, says, size, fits, fronted, outcome_with, answered_from, lent_from, Leaves, as_it_is, nothing, given, sent, left, Sends, with_table}
 
 -- What is written at the front of a memory, in the words of `octets` and of `Said`.
 pub front_is : (m : List ℕ) (xs : List Asdu) → over m 0 (wire xs) ≡ fronted xs m
@@ -53,6 +55,10 @@ module _ (a : Asdu) (m : List ℕ) where
 -- The same of answers that are equal.
 pub sends_along : (X Y : List Asdu) (m m' : List ℕ) (r : Answered) → X ≡ Y → Sends X m r m' → Sends Y m r m'
 sends_along X Y m m' r e s = record { answers = s.answers ∙ ap (λ (Z : List Asdu). sent Z m) e; leaves = s.leaves ∙ ap (λ (Z : List Asdu). left Z m) e }
+
+-- The same of results that are equal.
+pub sends_as : (X : List Asdu) (m m' : List ℕ) (r r' : Result Written Refusal) → r ≡ r' → Sends X m (answered r) m' → Sends X m (answered r') m'
+sends_as X m m' r r' e s = record { answers = sym (ap answered e) ∙ s.answers; leaves = s.leaves }
 
 -- ---- the ways out of an entry
 
