@@ -19,7 +19,6 @@ use asdu::types_id::{C_CI_NA_1, C_CS_NA_1, C_IC_NA_1, C_RD_NA_1};
 use asdu::{confirmation, cot};
 use limits::outcome::Refusal;
 use limits::size::{ADDRESS_OCTETS, HEADER_OCTETS};
-use lookup::Seat;
 
 // ---- read
 
@@ -28,10 +27,10 @@ fn handle_read(answer: &mut [u8], table: &[u8], command: Command, asdu: &[u8]) -
     requires { (well_formed table.now ≡ true) × (0 < command.count) × (command.count ≤ count_limit) × (command.element ≡ 0) × (length asdu.now ≡ object_at 0 command.count) }
     ensures { Sends (read_answer command asdu.now (points_read command asdu.now (table_of table.now))) answer.old (answered result) answer.new }
 {
-    let Seat::Here(_, first, h) = lookup::seat_at(table, command.ca as usize) else {
+    let Some(seat) = lookup::seat_at(table, command.ca as usize) else {
         return confirming::echo(answer, command, asdu, true);
     };
-    let Some(octets) = read_data::read_octets(table, first, h, command, asdu) else {
+    let Some(octets) = read_data::read_octets(table, seat.first, seat.held, command, asdu) else {
         return confirming::echo(answer, command, asdu, true);
     };
     let before = asdu.len();
@@ -42,7 +41,9 @@ fn handle_read(answer: &mut [u8], table: &[u8], command: Command, asdu: &[u8]) -
         return Err(Refusal::AnswerShort);
     }
     confirmation::put_echo(answer, command, asdu, cot::ACTIVATION_CONFIRMATION, false);
-    Written::given(read_data::put_requested(answer, before, table, first, h, command, asdu))
+    Written::given(read_data::put_requested(
+        answer, before, table, seat.first, seat.held, command, asdu,
+    ))
 }
 
 // ---- the clock
