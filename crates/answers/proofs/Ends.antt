@@ -10,7 +10,7 @@ use native.Mathlib.Nat.{zero-add}
 use lib.ListN.{length, drop}
 use borrow.Author.Tests.{le-leb, lt-leb, leb-true, leb-false}
 use Rattle.limits.specs.Test.{pick}
-use Rattle.std.specs.Prelude.{Result, Err}
+use Rattle.std.specs.Prelude.{Result, Ok, Err, is_ok}
 use Rattle.limits.specs.Outcome.{Outcome, done, is_done}
 use Rattle.limits.specs.declared.outcome.Refusal.TheVariants.{TableNotWellFormed, AnswerShort}
 use Rattle.octets.specs.Number.{Octets}
@@ -59,6 +59,11 @@ sends_along X Y m m' r e s = record { answers = s.answers ∙ ap (λ (Z : List A
 -- The same of results that are equal.
 pub sends_as : (X : List Asdu) (m m' : List ℕ) (r r' : Result Written Refusal) → r ≡ r' → Sends X m (answered r) m' → Sends X m (answered r') m'
 sends_as X m m' r r' e s = record { answers = sym (ap answered e) ∙ s.answers; leaves = s.leaves }
+
+-- Done and given are one.
+pub done_given : (r : Result Written Refusal) → is_done (answered r).outcome ≡ is_ok r
+done_given (Ok w) = refl
+done_given (Err r) = refl
 
 -- ---- the ways out of an entry
 

@@ -7,7 +7,7 @@ use native.Mathlib.Nat.{add-mul, mul-le-mul_right}
 use native.Mathlib.Omega.{arith}
 use lib.Dec.{eqb}
 use lib.ListN.{length}
-use borrow.Author.Tests.{leb-true, le-leb, eqb-true, eqb-false, eq-eqb, not-true}
+use borrow.Author.Tests.{leb-true, le-leb, eqb-true, eqb-false, eq-eqb, not-true, not-false}
 use Rattle.limits.specs.Test.{pick}
 use Rattle.limits.specs.Size.{class_of, element_octets}
 use Rattle.limits.proofs.Tests.{both, join}
@@ -16,7 +16,7 @@ use Rattle.octets.specs.Number.{three}
 use Rattle.asdu.specs.declared.header.Header.{Header}
 use Rattle.asdu.specs.declared.command.Entry.{Entry}
 use Rattle.asdu.specs.declared.command.Command.{Command}
-use Rattle.std.specs.Prelude.{Ok, Err, Option, Some, None}
+use Rattle.std.specs.Prelude.{Ok, Err, Option, Some, None, is_some}
 use Rattle.asdu.specs.declared.command.Unread.TheVariants.{LengthOutOfRange, TypeNotServed, ObjectsNotWhole}
 use Rattle.asdu.specs.Header.{header, most_octets, kind_in, sequence_in}
 use Rattle.asdu.specs.Command.{serves, length_ok, object_at, whole_objects, command_in, read_as, first_object}
@@ -80,23 +80,19 @@ object_there element count i m h k =
 pub first_there : (element count : ℕ) (m : List ℕ) → object_at element count ≤ length m → 0 < count → 9 + element ≤ length m
 first_there element count m h k = let t = object_there element count 0 m h k in omega arith
 
--- no first object: the count is 0
-pub no_first : (c : Command) (m : List ℕ) → first_object c m ≡ None → c.count ≡ 0
-no_first c m e = eqb-true _ _ (go (eqb c.count 0) e)
+-- there is one exactly where the count is not 0
+first_some : (c : Command) (m : List ℕ) → is_some (first_object c m) ≡ not (eqb c.count 0)
+first_some c m = go (eqb c.count 0)
   where
-    go : (b : Bool) → pick {A = Option (ℕ × ℕ)} b None (Some (three m 6, 9)) ≡ None → b ≡ true
-    go true e = refl
-    go false e = let z : ◌≡◌ {A = ℕ} 0 1 = cc in absurd (omega arith)
+    go : (b : Bool) → is_some (pick {A = Option (ℕ × ℕ)} b None (Some (three m 6, 9))) ≡ not b
+    go true = refl
+    go false = refl
 
--- a first object: the count is not 0
-pub has_first : (c : Command) (m : List ℕ) (o : ℕ × ℕ) → first_object c m ≡ Some o → 0 < c.count
-has_first c m o e = go (eqb c.count 0) refl e
-  where
-    positive : (c.count ≡ 0 → ⊥) → 0 < c.count
-    positive none = omega arith
-    go : (b : Bool) → eqb c.count 0 ≡ b → pick {A = Option (ℕ × ℕ)} b None (Some (three m 6, 9)) ≡ Some o → 0 < c.count
-    go true t e = let z : ◌≡◌ {A = ℕ} 0 1 = cc in absurd (omega arith)
-    go false t e = positive (eqb-false _ _ t)
+pub no_first : (c : Command) (m : List ℕ) → is_some (first_object c m) ≡ false → c.count ≡ 0
+no_first c m e = eqb-true _ _ (not-false _ (sym (first_some c m) ∙ e))
+
+pub has_first : (c : Command) (m : List ℕ) → is_some (first_object c m) ≡ true → 0 < c.count
+has_first c m e = let n : c.count ≡ 0 → ⊥ = eqb-false _ _ (not-true _ (sym (first_some c m) ∙ e)) in omega arith
 
 -- ---- a command that was written is read back
 

@@ -11,10 +11,10 @@ use lib.ListN.{length}
 use borrow.Author.Tests.{eq-eqb, ne_eqb}
 use Rattle.limits.specs.Test.{pick}
 use Rattle.std.specs.Prelude.{Ok, Err}
-use Rattle.limits.specs.Outcome.{done, is_done}
+use Rattle.limits.specs.Outcome.{done}
 use Rattle.limits.specs.declared.outcome.Refusal.TheVariants.{Silent}
-use Rattle.asdu.specs.Command.{Reading, read_as, outcome_of, object_at}
-use Rattle.asdu.specs.declared.command.Unread.TheVariants.{LengthOutOfRange, TypeNotServed, ObjectsNotWhole}
+use Rattle.asdu.specs.Command.{Reading, read_as, refusal_of, object_at}
+use Rattle.asdu.specs.declared.command.Unread.{Unread}
 use Rattle.limits.specs.Size.{element_octets, octets_in, named_types, point_types, system_types, process_types, end_types}
 use Rattle.table.specs.Table.{Table}
 use Rattle.asdu.specs.declared.command.Command.{Command}
@@ -97,20 +97,13 @@ silent_some c m h = let n : c.count ≡ 0 → ⊥ = λ q. omega arith in simp (n
 
 module _ (clock m : List ℕ) (t : Table) where
   -- No command was read: its number.
-  pub unread_says : (r : Reading) → ((c : Command) → r ≡ Ok c → ⊥) → r ≡ read_as (limit_of t) SystemCommands m
-      → ((system_said clock m t).outcome ≡ outcome_of r) × (is_done (outcome_of r) ≡ false)
+  pub unread_says : (unread : Unread) → read_as (limit_of t) SystemCommands m ≡ Err unread → (system_said clock m t).outcome ≡ Err (refusal_of unread)
   unfolding system_from
-  unread_says r k e = let z = by_reading r k in (ap (λ (x : Reading). (system_from clock m x t).outcome) (sym e) ∙ z.0, z.1)
-    where
-      by_reading : (x : Reading) → ((c : Command) → x ≡ Ok c → ⊥) → ((system_from clock m x t).outcome ≡ outcome_of x) × (is_done (outcome_of x) ≡ false)
-      by_reading (Err LengthOutOfRange) k' = (refl, refl)
-      by_reading (Err TypeNotServed) k' = (refl, refl)
-      by_reading (Err ObjectsNotWhole) k' = (refl, refl)
-      by_reading (Ok c) k' = absurd (k' c refl)
+  unread_says unread e = ap (λ (x : Reading). (system_from clock m x t).outcome) e
 
   module _ (c : Command) (e : read_as (limit_of t) SystemCommands m ≡ Ok c) where
     -- A command that is passed over.
-    pub silent_says : is_silent c m ≡ true → (system_said clock m t).outcome ≡ (Err Silent)
+    pub silent_says : is_silent c m ≡ true → (system_said clock m t).outcome ≡ Err Silent
     unfolding system_from
     silent_says s = ap (λ (r : Reading). (system_from clock m r t).outcome) e ∙ simp s
 

@@ -9,15 +9,15 @@ use Rattle.table.specs.Table.{Table}
 use Rattle.table.specs.Memory.{table_of}
 use Rattle.table.specs.Settings.{limit_of}
 use Rattle.registry.specs.Effect.{holding}
-use Rattle.answers.specs.Said.{Said, lent}
-use Rattle.answers.specs.System.{command_said}
-use Rattle.answers.proofs.Ends.{ends_sent, ends_says}
+use Rattle.answers.specs.Said.{Said, answered, lent}
+use Rattle.answers.specs.System.{command_said, clock_from, after_counters, qualifier_of}
+use Rattle.answers.proofs.Ends.{ends_sent, ends_says, done_given}
 use Rattle.system_command_handler.proofs.Ways.{sizes_of, element_is, one_octet, said_interrogation, said_counters, said_read, said_clock, said_echo, same_clock}
 use native.Mathlib.Omega.{arith}
 use Rattle.system_command_handler.proofs.dispatch_rtu_system_handler.Goals as goal
 
-pub handle_interrogation-answered-requires : goal.handle_interrogation-answered-requires
-handle_interrogation-answered-requires c =
+pub handle_interrogation-requires : goal.handle_interrogation-requires
+handle_interrogation-requires c =
     let there = c.requires.2 in
     let y = element_is 100 1 one_octet.0 c.args.command c.args.asdu.now (sizes_of (limit_of (table_of c.args.table.now)) c.args.asdu.now c.args.command c.requires.1) c.if-kind-eq-C_IC_NA_1.true in
     let e = y.0 in
@@ -28,11 +28,11 @@ pub returns-then-kind-eq-C_IC_NA_1 : goal.returns-then-kind-eq-C_IC_NA_1
 returns-then-kind-eq-C_IC_NA_1 c =
     let a = c.args in
     let o : Octets a.table.now = λ i. omega (arith, c.slice_known-1.given i) in
-    let S = said_interrogation a.clock a.asdu.now a.command (table_of a.table.now) c.if-kind-eq-C_IC_NA_1.true in
-    (ends_says (command_said c.args.clock c.args.asdu.now c.args.command) (lent c.args.table.now c.args.clock c.args.answer.now []) c.requires.0 o _ a.clock S _ _ _ c.handle_interrogation-answered.ensures (same_clock (is_done c.handle_interrogation-answered.result.outcome) a.clock))
+    let S = said_interrogation a.clock.now a.asdu.now a.command (table_of a.table.now) c.if-kind-eq-C_IC_NA_1.true in
+    (ends_says (command_said c.args.clock.now c.args.asdu.now c.args.command) (lent c.args.table.now c.args.clock.now c.args.answer.now []) c.requires.0 o _ a.clock.now S _ _ _ c.handle_interrogation.ensures (same_clock (is_done (answered c.handle_interrogation.result).outcome) a.clock.now))
 
-pub handle_counter_interrogation-answered-requires : goal.handle_counter_interrogation-answered-requires
-handle_counter_interrogation-answered-requires c =
+pub handle_counter_interrogation-requires : goal.handle_counter_interrogation-requires
+handle_counter_interrogation-requires c =
     let there = c.requires.2 in
     let y = element_is 101 1 one_octet.1 c.args.command c.args.asdu.now (sizes_of (limit_of (table_of c.args.table.now)) c.args.asdu.now c.args.command c.requires.1) c.if-kind-eq-C_CI_NA_1.true in
     let e = y.0 in
@@ -42,13 +42,14 @@ handle_counter_interrogation-answered-requires c =
 pub returns-then-kind-eq-C_CI_NA_1 : goal.returns-then-kind-eq-C_CI_NA_1
 returns-then-kind-eq-C_CI_NA_1 c =
     let a = c.args in
-    let S = said_counters a.clock a.asdu.now a.command (table_of a.table.now) c.if-kind-eq-C_IC_NA_1.false c.if-kind-eq-C_CI_NA_1.true in
-    let e = c.handle_counter_interrogation-answered.ensures in
-    let b = is_done c.handle_counter_interrogation-answered.result.outcome in
+    let S = said_counters a.clock.now a.asdu.now a.command (table_of a.table.now) c.if-kind-eq-C_IC_NA_1.false c.if-kind-eq-C_CI_NA_1.true in
+    let e = c.handle_counter_interrogation.ensures in
+    let d = done_given c.handle_counter_interrogation.result in
+    let b = is_done (answered c.handle_counter_interrogation.result).outcome in
     let t = a.table.now in
-    (ends_sent (command_said c.args.clock c.args.asdu.now c.args.command) (lent c.args.table.now c.args.clock c.args.answer.now []) c.requires.0 _ (ap (λ (s : Said). s.outcome) S) (ap (λ (s : Said). s.told) S) (ap (λ (s : Said). s.answer) S) _ _ _ _ e.sends
-    (e.table_after ∙ ap (λ (u : Table). pick b (holding t (table_of t) u) t) (sym (ap (λ (s : Said). s.after) S)))
-    (same_clock b a.clock ∙ ap (λ (k : List ℕ). pick b k a.clock) (sym (ap (λ (s : Said). s.clock) S))))
+    (ends_sent (command_said c.args.clock.now c.args.asdu.now c.args.command) (lent c.args.table.now c.args.clock.now c.args.answer.now []) c.requires.0 _ (ap (λ (s : Said). s.outcome) S) (ap (λ (s : Said). s.told) S) (ap (λ (s : Said). s.answer) S) _ _ _ _ e.sends
+    (e.table_after ∙ (λ j. pick (sym d j) (holding t (table_of t) (after_counters (table_of t) a.command.ca (qualifier_of a.asdu.now))) t) ∙ ap (λ (u : Table). pick b (holding t (table_of t) u) t) (sym (ap (λ (s : Said). s.after) S)))
+    (same_clock b a.clock.now ∙ ap (λ (k : List ℕ). pick b k a.clock.now) (sym (ap (λ (s : Said). s.clock) S))))
 
 pub handle_read-requires : goal.handle_read-requires
 handle_read-requires c =
@@ -60,8 +61,8 @@ pub returns-then-kind-eq-C_RD_NA_1 : goal.returns-then-kind-eq-C_RD_NA_1
 returns-then-kind-eq-C_RD_NA_1 c =
     let a = c.args in
     let o : Octets a.table.now = λ i. omega (arith, c.slice_known-1.given i) in
-    let S = said_read a.clock a.asdu.now a.command (table_of a.table.now) c.if-kind-eq-C_IC_NA_1.false c.if-kind-eq-C_CI_NA_1.false c.if-kind-eq-C_RD_NA_1.true in
-    (ends_says (command_said c.args.clock c.args.asdu.now c.args.command) (lent c.args.table.now c.args.clock c.args.answer.now []) c.requires.0 o _ a.clock S _ _ _ c.handle_read.ensures (same_clock (is_done c.handle_read.result.outcome) a.clock))
+    let S = said_read a.clock.now a.asdu.now a.command (table_of a.table.now) c.if-kind-eq-C_IC_NA_1.false c.if-kind-eq-C_CI_NA_1.false c.if-kind-eq-C_RD_NA_1.true in
+    (ends_says (command_said c.args.clock.now c.args.asdu.now c.args.command) (lent c.args.table.now c.args.clock.now c.args.answer.now []) c.requires.0 o _ a.clock.now S _ _ _ c.handle_read.ensures (same_clock (is_done (answered c.handle_read.result).outcome) a.clock.now))
 
 pub handle_clock_sync-requires : goal.handle_clock_sync-requires
 handle_clock_sync-requires c =
@@ -73,9 +74,9 @@ pub returns-then-kind-eq-C_CS_NA_1 : goal.returns-then-kind-eq-C_CS_NA_1
 returns-then-kind-eq-C_CS_NA_1 c =
     let a = c.args in
     let o : Octets a.table.now = λ i. omega (arith, c.slice_known-1.given i) in
-    let S = said_clock a.clock a.asdu.now a.command (table_of a.table.now) c.if-kind-eq-C_IC_NA_1.false c.if-kind-eq-C_CI_NA_1.false c.if-kind-eq-C_RD_NA_1.false c.if-kind-eq-C_CS_NA_1.true in
+    let S = said_clock a.clock.now a.asdu.now a.command (table_of a.table.now) c.if-kind-eq-C_IC_NA_1.false c.if-kind-eq-C_CI_NA_1.false c.if-kind-eq-C_RD_NA_1.false c.if-kind-eq-C_CS_NA_1.true in
     let e = c.handle_clock_sync.ensures in
-    ends_says (command_said c.args.clock c.args.asdu.now c.args.command) (lent c.args.table.now c.args.clock c.args.answer.now []) c.requires.0 o _ _ S _ _ _ e.sends e.clock_value
+    ends_says (command_said c.args.clock.now c.args.asdu.now c.args.command) (lent c.args.table.now c.args.clock.now c.args.answer.now []) c.requires.0 o _ _ S _ _ _ e.sends (e.clock_value ∙ (λ j. pick (sym (done_given c.handle_clock_sync.result) j) (clock_from a.asdu.now) a.clock.now))
 
 pub echo-requires : goal.echo-requires
 echo-requires c =
@@ -85,5 +86,5 @@ pub returns : goal.returns
 returns c =
     let a = c.args in
     let o : Octets a.table.now = λ i. omega (arith, c.slice_known-1.given i) in
-    let S = said_echo a.clock a.asdu.now a.command (table_of a.table.now) c.if-kind-eq-C_IC_NA_1.false c.if-kind-eq-C_CI_NA_1.false c.if-kind-eq-C_RD_NA_1.false c.if-kind-eq-C_CS_NA_1.false in
-    (ends_says (command_said c.args.clock c.args.asdu.now c.args.command) (lent c.args.table.now c.args.clock c.args.answer.now []) c.requires.0 o _ a.clock S _ _ _ c.echo.ensures (same_clock (is_done c.echo.result.outcome) a.clock))
+    let S = said_echo a.clock.now a.asdu.now a.command (table_of a.table.now) c.if-kind-eq-C_IC_NA_1.false c.if-kind-eq-C_CI_NA_1.false c.if-kind-eq-C_RD_NA_1.false c.if-kind-eq-C_CS_NA_1.false in
+    (ends_says (command_said c.args.clock.now c.args.asdu.now c.args.command) (lent c.args.table.now c.args.clock.now c.args.answer.now []) c.requires.0 o _ a.clock.now S _ _ _ c.echo.ensures (same_clock (is_done (answered c.echo.result).outcome) a.clock.now))

@@ -1,15 +1,13 @@
 -- The echo, and the clock if it was given. Assumes nothing.
-use mathlib.Core.Path.{◌≡◌, sym, ◌∙◌}
-use mathlib.Core.Bool.{true, false}
-use Rattle.limits.specs.Outcome.{is_done}
+use mathlib.Core.Path.{refl}
+use Rattle.std.proofs.lemmas.Result.{err_from_is_err_and}
+use Rattle.answers.proofs.Ends.{sends_as}
 use Rattle.system_command_handler.proofs.handle_clock_sync.Goals as goal
 
-pub returns-then-not-is_done : goal.returns-then-not-is_done
-returns-then-not-is_done c =
-    let d : is_done c.echo-answered.result.outcome ≡ false = sym c.is_done.ensures ∙ c.if-not-is_done.true in
-    (record { sends = c.echo-answered.ensures; clock_value = sym (simp d) })
+pub returns-in_err-written : goal.returns-in_err-written
+returns-in_err-written c =
+    let r = err_from_is_err_and c.from_residual.result c.from_residual.ensures.1 in
+    rw (r.1, r.2) (record { sends = sends_as _ _ _ _ _ c.in_err-written.was c.echo.ensures; clock_value = refl })
 
 pub returns : goal.returns
-returns c =
-    let d : is_done c.echo-answered.result.outcome ≡ true = sym c.is_done.ensures ∙ c.if-not-is_done.false in
-    (record { sends = c.echo-answered.ensures; clock_value = c.clock_of.ensures ∙ sym (simp d) })
+returns c = record { sends = sends_as _ _ _ _ _ c.in_ok-written.was c.echo.ensures; clock_value = c.clock_of.ensures }

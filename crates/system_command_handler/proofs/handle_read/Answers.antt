@@ -12,7 +12,7 @@ use Rattle.read_data.proofs.Entry.{Requested, read_bounds, requested_law, missin
 use Rattle.system_command_handler.proofs.Laws.{read_denied, read_short, read_written}
 use native.Mathlib.Omega.{arith}
 use Rattle.system_command_handler.proofs.handle_read.Goals as goal
-use Rattle.system_command_handler.proofs.handle_read.Goals.{In-Some, In-Known, Start}
+use Rattle.system_command_handler.proofs.handle_read.Goals.{In-Some, In-Some-read_octets, Start}
 
 -- the objects are whole
 whole_in : (s : Start) → length s.args.asdu.now ≡ object_at s.args.command.element s.args.command.count
@@ -32,10 +32,10 @@ bounds_in c =
     read_bounds c.args.table.now _ _ _ (octets_in c) c.requires.0 c.args.command (seat_in c)
 
 -- every address is known
-all_known : (c : In-Known) →
-    Requested c.args.table.now c.in-Some.seat.first c.in-Some.seat.held c.args.command c.args.asdu.now c.in-Known.octets
+all_known : (c : In-Some-read_octets) →
+    Requested c.args.table.now c.in-Some.seat.first c.in-Some.seat.held c.args.command c.args.asdu.now c.in-Some-read_octets.octets
 all_known c =
-    requested_law c.args.table.now _ _ _ (λ k. omega (arith, c.shared_slice_known-1.given k)) c.requires.0 c.args.command (sym c.seat_at.ensures ∙ c.in-Some.is) c.args.asdu.now _ (sym c.in-Known.is ∙ c.read_octets.ensures)
+    requested_law c.args.table.now _ _ _ (λ k. omega (arith, c.shared_slice_known-1.given k)) c.requires.0 c.args.command (sym c.seat_at.ensures ∙ c.in-Some.is) c.args.asdu.now _ (sym c.in-Some-read_octets.is ∙ c.read_octets.ensures)
 
 pub seat_at-requires : goal.seat_at-requires
 seat_at-requires c =
@@ -71,12 +71,12 @@ returns-in_default-read_octets c =
 pub returns-then-answer-before : goal.returns-then-answer-before
 returns-then-answer-before c =
     let a = c.args in
-    (read_short a.table.now _ _ a.command a.asdu.now a.answer.now _ (all_known (goal.at.returns-then-answer-before c).In-Known) (whole_in (goal.at.returns-then-answer-before c).Start) (omega arith))
+    (read_short a.table.now _ _ a.command a.asdu.now a.answer.now _ (all_known (goal.at.returns-then-answer-before c).In-Some-read_octets) (whole_in (goal.at.returns-then-answer-before c).Start) (omega arith))
 
 pub returns-then-answer-before-2 : goal.returns-then-answer-before-2
 returns-then-answer-before-2 c =
     let a = c.args in
-    (read_short a.table.now _ _ a.command a.asdu.now a.answer.now _ (all_known (goal.at.returns-then-answer-before-2 c).In-Known) (whole_in (goal.at.returns-then-answer-before-2 c).Start) (omega arith))
+    (read_short a.table.now _ _ a.command a.asdu.now a.answer.now _ (all_known (goal.at.returns-then-answer-before-2 c).In-Some-read_octets) (whole_in (goal.at.returns-then-answer-before-2 c).Start) (omega arith))
 
 pub put_echo-requires : goal.put_echo-requires
 put_echo-requires c =
@@ -84,7 +84,7 @@ put_echo-requires c =
 
 pub put_requested-requires : goal.put_requested-requires
 put_requested-requires c =
-    let z = all_known (goal.at.put_requested-requires c).In-Known in
+    let z = all_known (goal.at.put_requested-requires c).In-Some-read_octets in
     let n = z.is_octets in
     let l = ap size z.is_data in
     record { inside = (bounds_in (goal.at.put_requested-requires c).In-Some, omega (arith, c.requires.4)); fits = omega arith }
@@ -93,5 +93,5 @@ pub returns : goal.returns
 returns c =
     let a = c.args in
     rw c.given.ensures
-    (read_written a.table.now _ _ a.command a.asdu.now a.answer.now _ (all_known (goal.at.returns c).In-Known) (whole_in (goal.at.returns c).Start) (omega arith) _ _ _
+    (read_written a.table.now _ _ a.command a.asdu.now a.answer.now _ (all_known (goal.at.returns c).In-Some-read_octets) (whole_in (goal.at.returns c).Start) (omega arith) _ _ _
     c.put_echo.ensures.1 c.put_requested.ensures)
