@@ -12,8 +12,8 @@ use Rattle.limits.specs.Size.{header_octets}
 use Rattle.std.specs.Prelude.{Ok, Err}
 use Rattle.limits.specs.Outcome.{done}
 use Rattle.limits.specs.declared.outcome.Refusal.TheVariants.{Silent, AnswerShort, SpontaneousShort, BadProposal}
-use Rattle.asdu.specs.Command.{Reading, read_as, outcome_of}
-use Rattle.asdu.specs.declared.command.Unread.TheVariants.{LengthOutOfRange, TypeNotServed, ObjectsNotWhole}
+use Rattle.asdu.specs.Command.{Reading, read_as, refusal_of}
+use Rattle.asdu.specs.declared.command.Unread.{Unread}
 use Rattle.octets.specs.Over.{over}
 use Rattle.table.specs.Table.{Table}
 use Rattle.table.specs.Settings.{limit_of}
@@ -32,28 +32,24 @@ use Rattle.answers.proofs.Ends.{front_is, ends_nothing, ends_refused, ends_alike
 use Rattle.updates.specs.Updates.{left_by_all}
 use Rattle.commands.specs.Entry.{proposal_of}
 
--- What is met of a result is met of one that is equal.
-pub gives : (f : Table → Said) (l l' : Lent) (r r' : Answered) → r ≡ r' → Leaves as_it_is f l r' l' → Leaves as_it_is f l r l'
-gives f l l' r r' e h = record { answers = e ∙ h.answers; leaves = h.leaves }
-
 -- ---- commands that tell something
 
-module _ (f : Table → Said) (l : Lent) (w : well_formed l.table ≡ true) (done : (f (table_of l.table)).outcome ≡ done) where
+module _ (f : Table → Said) (l : Lent) (w : well_formed l.table ≡ true) (says : (f (table_of l.table)).outcome ≡ done) where
   -- What is told does not fit: 5.
   ends_untold : length l.spontaneous < size (f (table_of l.table)).told → Leaves as_it_is f l (nothing (Err SpontaneousShort)) l
   unfolding outcome_with
-  ends_untold h = ends_nothing f l w (Err SpontaneousShort) (simp (done, lt-leb _ _ h)) refl
+  ends_untold h = ends_nothing f l w (Err SpontaneousShort) (simp (says, lt-leb _ _ h)) refl
 
   -- What is told fits, the answer does not: 4.
   ends_unanswered : size (f (table_of l.table)).told ≤ length l.spontaneous → length l.answer < size (f (table_of l.table)).answer
       → Leaves as_it_is f l (nothing (Err AnswerShort)) l
   unfolding outcome_with
-  ends_unanswered k h = ends_nothing f l w (Err AnswerShort) (simp (done, le-leb _ _ k, lt-leb _ _ h)) refl
+  ends_unanswered k h = ends_nothing f l w (Err AnswerShort) (simp (says, le-leb _ _ k, lt-leb _ _ h)) refl
 
   both_fit : size (f (table_of l.table)).told ≤ length l.spontaneous → size (f (table_of l.table)).answer ≤ length l.answer
       → outcome_with (f (table_of l.table)) l ≡ done
   unfolding outcome_with
-  both_fit k h = simp (done, le-leb _ _ k, le-leb _ _ h)
+  both_fit k h = simp (says, le-leb _ _ k, le-leb _ _ h)
 
   -- Both fit.
   ends_told : (n k : ℕ) (l' : Lent) → n ≡ size (f (table_of l.table)).answer → n ≤ length l.answer
@@ -164,13 +160,10 @@ module _ (l : Lent) (negative : Bool) (kind : ℕ) (objects us : List ℕ) (c : 
 -- ---- what was read
 
 -- No command was read: its number.
-pub process_unread : (l : Lent) (p : Proposal) → well_formed l.table ≡ true → (x : Reading) → ((c : Command) → x ≡ Ok c → ⊥)
-    → Leaves as_it_is (process_from l.clock p x) l (nothing (outcome_of x)) l
+pub process_unread : (l : Lent) (p : Proposal) → well_formed l.table ≡ true → (unread : Unread)
+    → Leaves as_it_is (process_from l.clock p (Err unread)) l (nothing (Err (refusal_of unread))) l
 unfolding process_from
-process_unread l p w (Err LengthOutOfRange) k = ends_refused _ l w (outcome_of (Err LengthOutOfRange)) refl refl
-process_unread l p w (Err TypeNotServed) k = ends_refused _ l w (outcome_of (Err TypeNotServed)) refl refl
-process_unread l p w (Err ObjectsNotWhole) k = ends_refused _ l w (outcome_of (Err ObjectsNotWhole)) refl refl
-process_unread l p w (Ok c) k = absurd (k c refl)
+process_unread l p w unread = ends_refused _ l w (Err (refusal_of unread)) refl refl
 
 -- What is met of what was read is met of the ASDU.
 pub process_read : (l l' : Lent) (p : Proposal) (m : List ℕ) (r : Answered) (x : Reading) → well_formed l.table ≡ true

@@ -1,20 +1,19 @@
 // Process commands: a caller's proposal, its updates, the confirmation. From `commands.rs`; the async handler has become the proposal.
 #![tactic(auto)]
 
-ghost use Rattle.std.specs.Prelude.{◌≡◌, [], true, ◌+◌, ◌*◌, ◌/◌, ◌≤◌, ◌<◌, length};
+ghost use Rattle.std.specs.Prelude.{◌≡◌, [], true, ◌+◌, ◌*◌, ◌/◌, ◌≤◌, ◌<◌, length, Ok};
 ghost use Rattle.limits.specs.Test.{pick};
 ghost use Rattle.limits.specs.Size.{class_of, control_octets, header_octets};
 ghost use Rattle.table.specs.Memory.{well_formed};
 ghost use Rattle.asdu.specs.Command.{is_process};
 ghost use Rattle.asdu.specs.Header.{asdu_octets};
 ghost use Rattle.asdu.specs.Puts.{Puts};
-ghost use Rattle.asdu.specs.declared.command.Reading.TheVariants.{Parsed};
 ghost use Rattle.answers.specs.Said.{answered, Leaves, as_it_is};
 ghost use Rattle.answers.specs.Process.{update_octets, proposal_ok, process_cause_taken, confirmation_cause, process_reply, process_from, process_said};
 ghost use Rattle.commands.specs.Entry.{proposal_of, proposed, WholeReply, as_found, as_left};
 
 use answers::Written;
-use asdu::command::{Command, Entry, Reading};
+use asdu::command::{Command, Entry};
 use asdu::cot;
 use limits::outcome::Refusal;
 use limits::size::{ADDRESS_OCTETS, CONTROL_OCTETS, Class, HEADER_OCTETS};
@@ -96,7 +95,7 @@ fn send_command_confirmation(
     reply: &[u8],
 ) -> usize
     requires { WholeReply kind reply.now × (length reply.now < 256) × (header_octets + length reply.now ≤ length answer.old) }
-    ensures { Puts (asdu_octets (process_reply command (proposal_of negative kind reply.now []))) answer.old (answered result) answer.new }
+    ensures { Puts (asdu_octets (process_reply command (proposal_of negative kind reply.now []))) answer.old result answer.new }
 {
     let element = limits::size::element_octets(kind);
     let count = (reply.len() / (ADDRESS_OCTETS + element)) as u8;
@@ -118,7 +117,7 @@ fn handle_process_command(
     spontaneous: &mut [u8],
 ) -> Result<Written, Refusal>
     requires { well_formed table.old ≡ true }
-    ensures { Leaves as_it_is (process_from [] (proposed negative reply_type reply updates) (Parsed command)) (as_found table answer spontaneous) result (as_left table answer spontaneous) }
+    ensures { Leaves as_it_is (process_from [] (proposed negative reply_type reply updates) (Ok command)) (as_found table answer spontaneous) (answered result) (as_left table answer spontaneous) }
 {
     if !is_command_cot(command.cause) {
         return Err(Refusal::Silent);
@@ -136,11 +135,10 @@ fn handle_process_command(
     }
     updates::apply_model_updates(table, updates, n, spontaneous);
     let octets = send_command_confirmation(answer, command, negative, reply_type, reply);
-    Answered {
-        outcome: Outcome::Done,
+    Ok(Written {
         octets: octets,
         spontaneous: told,
-    }
+    })
 }
 
 // The entry for process commands: a caller's proposal has a negative flag, a reply type, reply objects and updates.
@@ -154,16 +152,13 @@ pub fn process_command(
     answer: &mut [u8],
     spontaneous: &mut [u8],
 ) -> Result<Written, Refusal>
-    ensures { Leaves as_it_is (process_said [] (proposed negative reply_type reply updates) asdu.now) (as_found table answer spontaneous) result (as_left table answer spontaneous) }
+    ensures { Leaves as_it_is (process_said [] (proposed negative reply_type reply updates) asdu.now) (as_found table answer spontaneous) (answered result) (as_left table answer spontaneous) }
 {
     if !wellformed::well_formed(table) {
         return Err(Refusal::TableNotWellFormed);
     }
     let limit = settings::limit_of(table);
-    let reading = asdu::command::parse(asdu, Entry::ProcessCommands, limit);
-    let Reading::Parsed(command) = reading else {
-        return Answered::nothing(reading.outcome());
-    };
+    let command = asdu::command::parse(asdu, Entry::ProcessCommands, limit)?;
     handle_process_command(
         table,
         command,

@@ -13,7 +13,7 @@ use Rattle.answers.specs.Said.{lent}
 use Rattle.answers.specs.Process.{update_octets, proposal_ok, process_cause_taken}
 use Rattle.answers.proofs.Proposals.{most_reply, whole_reply}
 use Rattle.updates.specs.Updates.{told_by_all, left_by_all}
-use Rattle.commands.proofs.Laws.{gives, process_silent, process_bad, process_untold, process_unanswered, process_done}
+use Rattle.commands.proofs.Laws.{process_silent, process_bad, process_untold, process_unanswered, process_done}
 use Rattle.commands.proofs.handle_process_command.Goals as goal
 use Rattle.commands.proofs.handle_process_command.Goals.{After-is_proposal, After-told_octets-told, Else-not-is_command_cot}
 
@@ -38,7 +38,7 @@ pub returns-then-not-is_command_cot : goal.returns-then-not-is_command_cot
 returns-then-not-is_command_cot c =
     let a = c.args in
     let untaken : process_cause_taken a.command.cause ≡ false = sym c.is_command_cot.ensures ∙ c.if-not-is_command_cot.true in
-    gives _ _ _ _ _ c.nothing.ensures (process_silent (lent c.args.table.now [] c.args.answer.now c.args.spontaneous.now) a.negative c.args.reply_type a.reply.now a.updates.now a.command c.requires untaken)
+    (process_silent (lent c.args.table.now [] c.args.answer.now c.args.spontaneous.now) a.negative c.args.reply_type a.reply.now a.updates.now a.command c.requires untaken)
 
 pub limit_of-requires : goal.limit_of-requires
 limit_of-requires c =
@@ -48,7 +48,7 @@ pub returns-then-not-is_proposal : goal.returns-then-not-is_proposal
 returns-then-not-is_proposal c =
     let a = c.args in
     let bad = proposal (goal.at.returns-then-not-is_proposal c).After-is_proposal ∙ c.if-not-is_proposal.true in
-    gives _ _ _ _ _ c.nothing-then-not-is_proposal.ensures (process_bad (lent c.args.table.now [] c.args.answer.now c.args.spontaneous.now) a.negative c.args.reply_type a.reply.now a.updates.now a.command c.requires (taken (goal.at.returns-then-not-is_proposal c).Else-not-is_command_cot) bad)
+    (process_bad (lent c.args.table.now [] c.args.answer.now c.args.spontaneous.now) a.negative c.args.reply_type a.reply.now a.updates.now a.command c.requires (taken (goal.at.returns-then-not-is_proposal c).Else-not-is_command_cot) bad)
 
 pub told_octets-told-requires : goal.told_octets-told-requires
 told_octets-told-requires c =
@@ -59,7 +59,6 @@ returns-then-spontaneous-told c =
     let a = c.args in
     let ok = proposal (goal.at.returns-then-spontaneous-told c).After-is_proposal ∙ c.if-not-is_proposal.false in
     let t = told (goal.at.returns-then-spontaneous-told c).After-told_octets-told in
-    gives _ _ _ _ _ c.nothing-then-spontaneous-told.ensures
     (process_untold (lent c.args.table.now [] c.args.answer.now c.args.spontaneous.now) a.negative c.args.reply_type a.reply.now a.updates.now a.command c.requires (taken (goal.at.returns-then-spontaneous-told c).Else-not-is_command_cot) ok (omega arith))
 
 pub overflow_add-reply : goal.overflow_add-reply
@@ -73,7 +72,6 @@ returns-then-answer-reply c =
     let a = c.args in
     let ok = proposal (goal.at.returns-then-answer-reply c).After-is_proposal ∙ c.if-not-is_proposal.false in
     let t = told (goal.at.returns-then-answer-reply c).After-told_octets-told in
-    gives _ _ _ _ _ c.nothing-then-answer-reply.ensures
     (process_unanswered (lent c.args.table.now [] c.args.answer.now c.args.spontaneous.now) a.negative c.args.reply_type a.reply.now a.updates.now a.command c.requires (taken (goal.at.returns-then-answer-reply c).Else-not-is_command_cot) ok (omega arith) (omega arith))
 
 pub apply_model_updates-requires : goal.apply_model_updates-requires

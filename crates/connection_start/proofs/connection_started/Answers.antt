@@ -16,15 +16,13 @@ use Rattle.connection_start.proofs.connection_started.Goals as goal
 pub returns-then-not-well_formed : goal.returns-then-not-well_formed
 returns-then-not-well_formed c =
     let a = c.args in
-    let e = ends_no_table (start_said []) (lent a.table.now [] a.answer.now []) (sym c.well_formed-2.ensures ∙ c.if-not-well_formed.true) in
-    record { answers = c.nothing.ensures ∙ e.answers; leaves = e.leaves }
+    ends_no_table (start_said []) (lent a.table.now [] a.answer.now []) (sym c.well_formed-2.ensures ∙ c.if-not-well_formed.true)
 
 pub returns-then-answer-lt-END_OF_INITIALIZATION_OCTETS : goal.returns-then-answer-lt-END_OF_INITIALIZATION_OCTETS
 returns-then-answer-lt-END_OF_INITIALIZATION_OCTETS c =
     let a = c.args in
     let o : Octets a.table.now = λ j. omega (arith, c.shared_slice_known-1.given j) in
-    let e = start_short a.table.now a.answer.now o (sym c.well_formed-2.ensures ∙ c.if-not-well_formed.false) (omega arith) in
-    record { answers = c.nothing-then-answer-lt-END_OF_INITIALIZATION_OCTETS.ensures ∙ e.answers; leaves = e.leaves }
+    start_short a.table.now a.answer.now o (sym c.well_formed-2.ensures ∙ c.if-not-well_formed.false) (omega arith)
 
 pub station_at-first-requires : goal.station_at-first-requires
 station_at-first-requires c =
