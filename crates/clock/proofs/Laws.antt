@@ -14,7 +14,6 @@ use Rattle.limits.specs.Test.{pick}
 use Rattle.std.specs.Prelude.{Ok, Err}
 use Rattle.limits.specs.Outcome.{is_done}
 use Rattle.asdu.specs.Command.{Reading, read_as}
-use Rattle.asdu.specs.declared.command.Unread.TheVariants.{LengthOutOfRange, TypeNotServed, ObjectsNotWhole}
 use Rattle.table.specs.Table.{Table}
 use Rattle.table.specs.Memory.{parse}
 use Rattle.table.specs.Settings.{limit_of}
@@ -109,9 +108,7 @@ module _ (clock m : List ℕ) (w : Flagged clock) where
 
   flagged_read : (r : Reading) (t : Table) → Flagged (system_from clock m r t).clock
   unfolding system_from
-  flagged_read (Err LengthOutOfRange) t = w
-  flagged_read (Err TypeNotServed) t = w
-  flagged_read (Err ObjectsNotWhole) t = w
+  flagged_read (Err unread) t = w
   flagged_read (Ok c) t = flagged_pick (is_silent c m) _ _ w (flagged_command c t)
 
 -- The clock that is left ends in a flag where the one before did.

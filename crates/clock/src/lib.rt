@@ -2,9 +2,11 @@
 #![tactic(auto)]
 
 ghost use Rattle.std.specs.Prelude.{◌≡◌, length};
+ghost use Rattle.answers.specs.Said.{answered};
 ghost use Rattle.clock.specs.Clock.{clock_of, fresh_clock, flag_of, with_flag, Answers};
 
-use answers::Answered;
+use answers::Written;
+use limits::outcome::Refusal;
 
 // The last master clock: seven octets of time, and whether one was received.
 #[derive(Clone, Copy)]
@@ -16,7 +18,7 @@ pub struct Clock {
 // What a command gives back, and the clock after it.
 #[derive(Clone, Copy)]
 pub struct Told {
-    pub answered: Answered,
+    pub answered: Result<Written, Refusal>,
     pub clock: Clock,
 }
 
@@ -70,16 +72,13 @@ pub fn clock_of(flat: [u8; 8]) -> Clock
 
 // The entry with the clock by value: all tests and the answer.
 pub fn answer_command(table: &mut [u8], clock: Clock, asdu: &[u8], answer: &mut [u8]) -> Told
-    ensures { Answers asdu.now table clock answer result.answered result.clock }
+    ensures { Answers asdu.now table clock answer (answered result.answered) result.clock }
 {
-    let time = clock.octets;
-    let flat = octets_of(time, clock.known);
-    let said = system_command_handler::system_command(table, flat, asdu, answer);
-    let answered = said.answered;
-    let back = said.clock;
+    let mut flat = octets_of(clock.octets, clock.known);
+    let answered = system_command_handler::system_command(table, &mut flat, asdu, answer);
     Told {
         answered: answered,
-        clock: clock_of(back),
+        clock: clock_of(flat),
     }
 }
 
@@ -89,8 +88,8 @@ pub fn system_command(
     clock: &mut Clock,
     asdu: &[u8],
     answer: &mut [u8],
-) -> Answered
-    ensures { Answers asdu.now table clock.old answer result clock.new }
+) -> Result<Written, Refusal>
+    ensures { Answers asdu.now table clock.old answer (answered result) clock.new }
 {
     let told = answer_command(table, *clock, asdu, answer);
     *clock = told.clock;

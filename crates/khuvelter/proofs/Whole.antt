@@ -10,7 +10,9 @@ use native.Mathlib.Omega.{arith}
 use lib.ListN.{length}
 use borrow.Author.Tests.{leb-true}
 use Rattle.limits.specs.Test.{pick}
-use Rattle.limits.specs.Outcome.{Outcome, is_done}
+use Rattle.std.specs.Prelude.{Result, Ok, Err}
+use Rattle.limits.specs.declared.outcome.Refusal.{Refusal}
+use Rattle.limits.specs.Outcome.{is_done}
 use Rattle.limits.proofs.Tests.{both}
 use Rattle.octets.specs.Number.{Octets}
 use Rattle.model.specs.declared.Request.{Request}
@@ -21,7 +23,7 @@ use Rattle.table.proofs.Parse.{Good, good_is, parse_sound}
 use Rattle.table.proofs.Change.{station_found}
 use Rattle.registry.specs.Effect.{Reply, Effect, reply_from, reply_on}
 use Rattle.registry.specs.declared.StationShare.{StationShare}
-use Rattle.registry.specs.Registry.{room_fault, with_request, batch_fault, own_tests, room_tests, registering_all, unregistering_all, no_share, share_in, share_from, share_on}
+use Rattle.registry.specs.Registry.{room_fault, with_request, batch_fault, own_tests, room_tests, registering_all, unregistering_all, share_in, share_from, share_on}
 use Rattle.registry.proofs.Histories.{station_numbers}
 use Rattle.khuvelter.specs.Interface.{narrowed}
 
@@ -91,9 +93,10 @@ pub record Given (s : StationShare) : Type 0 where
   pub free_whole : narrowed s.free ≡ s.free
   pub unmet_whole : narrowed s.unmet ≡ s.unmet
 
-none_given : (o : Outcome) → Given (no_share o)
-none_given o =
-    record { reservation_whole = refl; ceiling_whole = refl; held_whole = refl; free_whole = refl; unmet_whole = refl }
+-- The same of a share that may be refused.
+pub GivenIfOk : Result StationShare Refusal → Type 0
+GivenIfOk (Ok s) = Given s
+GivenIfOk (Err r) = Unit
 
 ceiling_within : (k low : ℕ) (before : List Station) (s : Station) (after : List Station) → plan_ok k low (before ++ (s ∷ after)) ≡ true → s.ceiling ≤ k
 unfolding plan_ok numbers_ok
@@ -105,9 +108,9 @@ unmet_within : (k r h u : ℕ) → shares_ok k r h u ≡ true → u ≤ k - h
 unfolding shares_ok
 unmet_within k r h u p = leb-true _ _ (both _ _ (both _ _ p).1).1
 
-share_in_lem : (t : Table) → Good t → (ca : ℕ) (s : Option Station) → station_of ca t.stations ≡ s → Given (share_in t s)
-unfolding share_in
-share_in_lem t g ca none e = none_given _
+share_in_lem : (t : Table) → Good t → (ca : ℕ) (s : Option Station) → station_of ca t.stations ≡ s → GivenIfOk (share_in t s)
+unfolding share_in GivenIfOk
+share_in_lem t g ca none e = tt
 share_in_lem t g ca (some s) e =
     let w = station_found ca t.stations s e in
     let n = station_numbers t ca s g e in
@@ -124,11 +127,11 @@ share_in_lem t g ca (some s) e =
       unmet_whole = whole _ (omega arith);
     }
 
-share_from_lem : (ca : ℕ) (m : List ℕ) → Octets m → (t : Option Table) → parse m ≡ t → Given (share_from ca t)
-unfolding share_from
-share_from_lem ca m o none e = none_given _
+share_from_lem : (ca : ℕ) (m : List ℕ) → Octets m → (t : Option Table) → parse m ≡ t → GivenIfOk (share_from ca t)
+unfolding share_from GivenIfOk
+share_from_lem ca m o none e = tt
 share_from_lem ca m o (some t) e = share_in_lem t (good_is t (parse_sound m t o e).0) ca (station_of ca t.stations) refl
 
 -- The share of a station.
-pub share_whole : (ca : ℕ) (m : List ℕ) → Octets m → Given (share_on ca m)
+pub share_whole : (ca : ℕ) (m : List ℕ) → Octets m → GivenIfOk (share_on ca m)
 share_whole ca m o = share_from_lem ca m o (parse m) refl

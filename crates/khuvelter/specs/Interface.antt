@@ -1,6 +1,7 @@
 -- The C interface's plain numbers: what each entry's answer becomes at the boundary. DESIGN.md, section 5.
-use Rattle.std.specs.Prelude.{Bool, not, eqb, ℕ, ◌%◌}
-use Rattle.limits.specs.Outcome.{Outcome, number_of}
+use Rattle.std.specs.Prelude.{Bool, not, eqb, ℕ, ◌%◌, Result, Ok, Err}
+use Rattle.limits.specs.declared.outcome.Refusal.{Refusal}
+use Rattle.limits.specs.Outcome.{Outcome, number_of, refusal_number}
 use Rattle.registry.specs.Effect as registry
 use Rattle.registry.specs.declared.StationShare.{StationShare}
 use Rattle.answers.specs.Said.{Answered}
@@ -25,16 +26,17 @@ answer_reply a =
     record { number = number_of a.outcome; place = 0; octets = narrowed a.octets; spontaneous = narrowed a.spontaneous }
 
 -- A station's share with document 01's number.
-abbrev pub flat_share : StationShare → Share
-flat_share s =
+abbrev pub flat_share : Result StationShare Refusal → Share
+flat_share (Ok s) =
     record {
-      number = number_of s.outcome;
+      number = 0;
       reservation = narrowed s.reservation;
       ceiling = narrowed s.ceiling;
       held = narrowed s.held;
       free = narrowed s.free;
       unmet = narrowed s.unmet;
     }
+flat_share (Err r) = record { number = refusal_number r; reservation = 0; ceiling = 0; held = 0; free = 0; unmet = 0 }
 
 -- A flag octet: 0 for no, anything else for yes.
 abbrev pub is_set : ℕ → Bool

@@ -4,7 +4,8 @@
 
 ghost use Rattle.std.specs.Prelude.{◌≡◌, []};
 ghost use Rattle.registry.specs.Registry.{share_on};
-ghost use Rattle.answers.specs.Said.{lent};
+ghost use Rattle.answers.specs.Said.{answered, lent};
+ghost use Rattle.replies.specs.Replies.{numbered, placed};
 ghost use Rattle.system_command_handler.specs.Handler.{at_entry, at_exit};
 ghost use Rattle.commands.specs.Entry.{as_found, as_left};
 ghost use Rattle.khuvelter.specs.Interface.{is_set, narrowed, plain_reply, place_reply, answer_reply, flat_share};
@@ -13,9 +14,10 @@ ghost use Rattle.khuvelter.specs.Calls.Change.{register_point, register_points, 
 ghost use Rattle.khuvelter.specs.Calls.Question.{connection_started, system, process};
 ghost use Rattle.khuvelter.specs.Calls.Call.{open_table, change, ask};
 
-use answers::Answered;
-use limits::outcome::Outcome;
-use registry::StationShare;
+use answers::Written;
+use limits::outcome;
+use limits::outcome::Refusal;
+use registry::{Fault, StationShare};
 
 // What every call gives back: document 01's number; the place of the faulty point of a refused batch, or the number of points removed by
 // `khuvelter_unregister_all`, else 0; the octets written to the answer and to the spontaneous memory, 0 unless the number is 0.
@@ -50,57 +52,78 @@ fn narrow(n: usize) -> u32
 }
 
 // An outcome alone.
-fn plain_reply(outcome: Outcome) -> Reply
+fn plain_reply(outcome: Result<(), Refusal>) -> Reply
     ensures { result ≡ plain_reply outcome }
 {
     Reply {
-        number: outcome.number(),
+        number: outcome::number_of(outcome),
         place: 0,
         octets: 0,
         spontaneous: 0,
     }
 }
 
-// The answer of a call that changes the table.
-fn place_reply(reply: registry::Reply) -> Reply
-    ensures { result ≡ place_reply reply }
+// A number of points, or a refusal.
+fn number_reply(removed: Result<usize, Refusal>) -> Reply
+    ensures { result ≡ place_reply (numbered removed) }
 {
-    let outcome = reply.outcome;
-    let number = outcome.number();
-    let place = narrow(reply.place);
-    Reply {
-        number: number,
-        place: place,
-        octets: 0,
-        spontaneous: 0,
+    match removed {
+        Ok(n) => Reply {
+            place: narrow(n),
+            ..plain_reply(Ok(()))
+        },
+        Err(refusal) => plain_reply(Err(refusal)),
+    }
+}
+
+// The answer to a batch: a refusal names the place of the faulty point.
+fn place_reply(batch: Result<(), Fault>) -> Reply
+    ensures { result ≡ place_reply (placed batch) }
+{
+    match batch {
+        Ok(_) => plain_reply(Ok(())),
+        Err(fault) => Reply {
+            place: narrow(fault.place),
+            ..plain_reply(Err(fault.refusal))
+        },
     }
 }
 
 // The answer of a call that writes octets.
-fn answer_reply(answered: Answered) -> Reply
-    ensures { result ≡ answer_reply answered }
+fn answer_reply(written: Result<Written, Refusal>) -> Reply
+    ensures { result ≡ answer_reply (answered written) }
 {
-    let outcome = answered.outcome;
-    Reply {
-        number: outcome.number(),
-        place: 0,
-        octets: narrow(answered.octets),
-        spontaneous: narrow(answered.spontaneous),
+    match written {
+        Ok(w) => Reply {
+            octets: narrow(w.octets),
+            spontaneous: narrow(w.spontaneous),
+            ..plain_reply(Ok(()))
+        },
+        Err(unanswered) => plain_reply(Err(unanswered)),
     }
 }
 
 // A station's share.
-fn flat_share(share: StationShare) -> Share
+fn flat_share(share: Result<StationShare, Refusal>) -> Share
     ensures { result ≡ flat_share share }
 {
-    let outcome = share.outcome;
-    Share {
-        number: outcome.number(),
-        reservation: narrow(share.reservation),
-        ceiling: narrow(share.ceiling),
-        held: narrow(share.held),
-        free: narrow(share.free),
-        unmet: narrow(share.unmet),
+    match share {
+        Ok(s) => Share {
+            number: 0,
+            reservation: narrow(s.reservation),
+            ceiling: narrow(s.ceiling),
+            held: narrow(s.held),
+            free: narrow(s.free),
+            unmet: narrow(s.unmet),
+        },
+        Err(refusal) => Share {
+            number: refusal.number(),
+            reservation: 0,
+            ceiling: 0,
+            held: 0,
+            free: 0,
+            unmet: 0,
+        },
     }
 }
 
@@ -118,7 +141,7 @@ pub fn khuvelter_register_point(table: &mut [u8], record: &[u8; 24]) -> Reply
     ensures { Meets (change (register_point «record».now)) (table_alone table.old) result (table_alone table.new) }
 {
     let request = model::request_at(record, 0);
-    place_reply(actor::register_point(table, request))
+    plain_reply(actor::register_point(table, request))
 }
 
 // Registers a batch of points, given as records of 24 octets one after another: all or none; octets after the last whole record are ignored.
@@ -132,14 +155,14 @@ pub fn khuvelter_register_points(table: &mut [u8], records: &[u8]) -> Reply
 pub fn khuvelter_unregister_point(table: &mut [u8], ca: u16, ioa: u32) -> Reply
     ensures { Meets (change (unregister_point ca ioa)) (table_alone table.old) result (table_alone table.new) }
 {
-    place_reply(actor::unregister_point(table, ca, ioa))
+    plain_reply(actor::unregister_point(table, ca, ioa))
 }
 
 // Removes all points: 3, else their number as the place; the plan stays.
 pub fn khuvelter_unregister_all(table: &mut [u8]) -> Reply
     ensures { Meets (change unregister_all) (table_alone table.old) result (table_alone table.new) }
 {
-    place_reply(actor::unregister_all(table))
+    number_reply(actor::unregister_all(table))
 }
 
 // The start of a connection: 3, then 4, else the end of initialisation.
@@ -165,10 +188,7 @@ pub fn khuvelter_system_command(
 ) -> Reply
     ensures { Meets (ask (system asdu.now)) (at_entry table clock.old answer) result (at_exit table clock.new answer) }
 {
-    let said = system_command_handler::system_command(table, *clock, asdu, answer);
-    let back = said.clock;
-    *clock = back;
-    answer_reply(said.answered)
+    answer_reply(system_command_handler::system_command(table, clock, asdu, answer))
 }
 
 // A process command with the caller's proposal; `negative` is 0 for no, anything else for yes.

@@ -14,6 +14,6 @@ returns c =
     let q = c.request_at-request.ensures in
     let e = c.register_point.ensures in
     record {
-      answered = c.place_reply.ensures ∙ ap place_reply (e.0 ∙ ap (λ (x : Request). reply_on (registering x) m) q);
+      answered = c.plain_reply.ensures ∙ ap place_reply (e.0 ∙ ap (λ (x : Request). reply_on (registering x) m) q);
       left = ap table_alone (e.1 ∙ ap (λ (x : Request). memory_on (registering x) m) q);
     }

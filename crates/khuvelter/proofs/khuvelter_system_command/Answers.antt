@@ -5,5 +5,5 @@ use Rattle.khuvelter.proofs.khuvelter_system_command.Goals as goal
 
 pub returns : goal.returns
 returns c =
-    let e = c.system_command-said.ensures in
+    let e = c.system_command.ensures in
     record { answered = c.answer_reply.ensures ∙ ap answer_reply e.answers; left = e.leaves }

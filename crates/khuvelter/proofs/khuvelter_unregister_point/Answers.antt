@@ -7,4 +7,4 @@ use Rattle.khuvelter.proofs.khuvelter_unregister_point.Goals as goal
 pub returns : goal.returns
 returns c =
     let e = c.unregister_point.ensures in
-    record { answered = c.place_reply.ensures ∙ ap place_reply e.0; left = ap table_alone e.1 }
+    record { answered = c.plain_reply.ensures ∙ ap place_reply e.0; left = ap table_alone e.1 }
