@@ -13,6 +13,7 @@ use Rattle.limits.specs.Test.{pick}
 use Rattle.std.specs.Prelude.{Result, Ok, Err, is_ok}
 use Rattle.limits.specs.Outcome.{Outcome, done, is_done}
 use Rattle.limits.specs.declared.outcome.Refusal.TheVariants.{TableNotWellFormed, AnswerShort}
+use Rattle.limits.proofs.Outcomes.{not_both}
 use Rattle.octets.specs.Number.{Octets}
 use Rattle.octets.specs.Over.{over}
 use Rattle.asdu.specs.Header.{Asdu, asdu_octets, wire}
@@ -59,6 +60,17 @@ sends_along X Y m m' r e s = record { answers = s.answers ∙ ap (λ (Z : List A
 -- The same of results that are equal.
 pub sends_as : (X : List Asdu) (m m' : List ℕ) (r r' : Result Written Refusal) → r ≡ r' → Sends X m (answered r) m' → Sends X m (answered r') m'
 sends_as X m m' r r' e s = record { answers = sym (ap answered e) ∙ s.answers; leaves = s.leaves }
+
+-- What is seen of a result tells the result.
+pub answered_tells : (a b : Result Written Refusal) → answered a ≡ answered b → a ≡ b
+answered_tells (Ok w) (Ok x) e = ap (λ (r : Answered). Ok record { octets = r.octets; spontaneous = r.spontaneous }) e
+answered_tells (Ok w) (Err s) e = not_both (sym (ap (λ (r : Answered). is_done r.outcome) e))
+answered_tells (Err r) (Ok x) e = not_both (ap (λ (r : Answered). is_done r.outcome) e)
+answered_tells (Err r) (Err s) e = ap told (ap (λ (r : Answered). r.outcome) e)
+  where
+    told : Outcome → Result Written Refusal
+    told (Ok u) = Ok record { octets = 0; spontaneous = 0 }
+    told (Err q) = Err q
 
 -- Done and given are one.
 pub done_given : (r : Result Written Refusal) → is_done (answered r).outcome ≡ is_ok r

@@ -12,7 +12,7 @@ use Rattle.limits.specs.Test.{pick}
 use Rattle.std.specs.Prelude.{Err}
 use Rattle.limits.specs.Outcome.{Outcome, done, is_done, number_of}
 use Rattle.limits.specs.declared.outcome.Refusal.TheVariants.{AnswerShort, SpontaneousShort, InvalidPlan}
-use Rattle.limits.proofs.Outcomes.{not_both, first_done, done_is}
+use Rattle.limits.proofs.Outcomes.{done_number, not_both, first_done, done_is}
 use Rattle.octets.specs.Number.{Octets}
 use Rattle.table.specs.Table.{Station, Table}
 use Rattle.table.specs.Change.{station_of}
@@ -42,7 +42,7 @@ effect_refusal : (f : Table → Effect) (l : Lent) → Refusal (number_of (reply
 effect_refusal f l =
     record {
       reports_nothing = λ e. (refl, refl);
-      changes_nothing = λ e. ap (λ (n : List ℕ). with_memory n l) (refusal_keeps_memory f l.table e);
+      changes_nothing = λ e. ap (λ (n : List ℕ). with_memory n l) (refusal_keeps_memory f l.table (done_number _ ∙ e));
     }
 
 -- Opening.
@@ -57,8 +57,8 @@ open_refusal k plan l = by_test (opens k plan (length l.table)) _
 said_refusal : (f : Table → Said) (l : Lent) → Refusal (number_of (answered_on f l).outcome) (answered_on f l).octets (answered_on f l).spontaneous l (lent_after f l)
 said_refusal f l =
     record {
-      reports_nothing = λ e. let n = refused_says_nothing f l e in (n.0, n.1);
-      changes_nothing = λ e. (refused_says_nothing f l e).2;
+      reports_nothing = λ e. let n = refused_says_nothing f l (done_number _ ∙ e) in (n.0, n.1);
+      changes_nothing = λ e. (refused_says_nothing f l (done_number _ ∙ e)).2;
     }
 
 said_beyond : (f : Table → Said) (l : Lent) → Beyond (answered_on f l).octets (answered_on f l).spontaneous l (lent_after f l)

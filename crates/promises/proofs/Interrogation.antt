@@ -44,6 +44,8 @@ use Rattle.khuvelter.specs.Calls.Question.{system}
 use Rattle.khuvelter.specs.Calls.Call.{ask}
 use Rattle.promises.specs.Interrogation.{Accepted, Reports, whole_answer, TheRightAnswer}
 use Rattle.promises.proofs.Small.{question_small}
+use Rattle.replies.proofs.Ways.{placeless_tells, numbered_tells, placed_tells}
+use Rattle.answers.proofs.Ends.{answered_tells}
 use Rattle.promises.proofs.Unique.{one_outcome, one_table_entry, one_opening, one_share, one_said}
 
 -- ---- every point of a good table has a type of the interrogation
@@ -177,4 +179,8 @@ the_right_answer =
       one_opening = one_opening;
       one_station_share = one_share;
       one_answer = one_said;
+      placeless_tells = placeless_tells;
+      numbered_tells = numbered_tells;
+      placed_tells = placed_tells;
+      answered_tells = answered_tells;
     }

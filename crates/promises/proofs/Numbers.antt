@@ -2,20 +2,21 @@
 use Prim.Native.Nat.{ℕ, ◌+◌}
 use mathlib.Core.Path.{◌≡◌, refl, sym, ap, ◌∙◌}
 use mathlib.Core.List.{List, [], ◌∷◌, map}
-use mathlib.Core.Bool.{Bool, true, false}
+use mathlib.Core.Bool.{Bool, true, false, ◌||◌}
 use mathlib.Core.Option.{Option, none, some}
 use native.Mathlib.Omega.{arith}
 use lib.ListN.{length}
-use lib.Dec.{leb, eqb}
+use lib.Dec.{ltb, leb, eqb}
 use borrow.Author.Tests.{le-leb}
-use Rattle.limits.specs.Test.{◌&◌, pick}
+use Rattle.limits.specs.Test.{◌&◌, pick, total}
 use Rattle.std.specs.Prelude.{Ok, Err}
 use Rattle.limits.specs.Outcome.{Outcome, done, is_done, number_of}
 use Rattle.limits.specs.declared.outcome.Refusal.TheVariants.{Silent, Malformed, TableNotWellFormed, AnswerShort, SpontaneousShort, BadProposal, InvalidPlan, UnknownTypeOrAddress, StationNotPlanned, GroupOutOfRange, CounterGroupOutOfRange, NotCounter, AddressTwice, AlreadyRegistered, NotRegistered, CeilingReached, NotAdmitted}
 use Rattle.asdu.specs.Command.{Reading}
 use Rattle.asdu.specs.declared.command.Unread.TheVariants.{LengthOutOfRange, TypeNotServed, ObjectsNotWhole}
 use Rattle.limits.specs.Size.{point_octets}
-use Rattle.limits.specs.Share.{admission_in}
+use Rattle.limits.specs.Share.{admission_of, free_of, unmet_of}
+use Rattle.limits.specs.declared.share.Share.{Share}
 use Rattle.model.specs.declared.Request.{Request}
 use Rattle.model.specs.Request.{group_ok, counter_ok, own_fault, request_at}
 use Rattle.table.specs.Table.{Station, Table, share_of}
@@ -68,7 +69,7 @@ with_number n =
 
 number_of_lem : (o : Outcome) → with_number (number_of o) ≡ o
 unfolding with_number
-number_of_lem done = refl
+number_of_lem (Ok u) = refl
 number_of_lem (Err Silent) = refl
 number_of_lem (Err Malformed) = refl
 number_of_lem (Err TableNotWellFormed) = refl
@@ -133,15 +134,15 @@ own_gives ns d n11 n12 n13 n14 n15 planned q =
     gives_pick ns (leb 1 (point_octets q.kind) & leb q.ioa 16777215) _ _ (gives_pick ns planned _ _ (gives_pick ns (group_ok 16 q.group) _ _ (gives_pick ns (group_ok 4 q.counter) _ _
     (gives_pick ns (counter_ok q.kind q.counter) _ _ d n15) n14) n13) n12) n11
 
-admission_gives : (ns : List ℕ) → Gives ns done → Gives ns (Err CeilingReached) → Gives ns (Err NotAdmitted) → (a : Outcome) → Gives ns (admission_outcome a)
-admission_gives ns d n19 n20 done = d
-admission_gives ns d n19 n20 (Err CeilingReached) = n19
-admission_gives ns d n19 n20 (Err NotAdmitted) = n20
+admission_gives : (ns : List ℕ) → Gives ns done → Gives ns (Err CeilingReached) → Gives ns (Err NotAdmitted) → (s : Share) (free unmet : ℕ)
+    → Gives ns (admission_of s free unmet)
+admission_gives ns d n19 n20 s free unmet =
+    gives_pick ns (ltb s.held s.ceiling) _ _ (gives_pick ns (ltb s.held s.reservation || ltb unmet free) _ _ d n20) n19
 
 room_gives : (ns : List ℕ) → Gives ns done → Gives ns (Err StationNotPlanned) → Gives ns (Err CeilingReached) → Gives ns (Err NotAdmitted) → (t : Table) (o : Option Station) → Gives ns (room_fault t o)
 unfolding room_fault
 room_gives ns d n12 n19 n20 t none = n12
-room_gives ns d n12 n19 n20 t (some s) = admission_gives ns d n19 n20 (admission_in t.capacity (map share_of t.stations) (share_of s))
+room_gives ns d n12 n19 n20 t (some s) = admission_gives ns d n19 n20 (share_of s) (free_of t.capacity (map share_of t.stations)) (total unmet_of (map share_of t.stations))
 
 -- What registration may give: the numbers of one point's own tests and of room.
 record GivesOwn (ns : List ℕ) : Type 0 where
@@ -205,16 +206,16 @@ module _ (ns : List ℕ) (g : GivesOwn ns) where
         let r = own_tests t [] 0 qs in
         gives_effect ns (is_done r.outcome) (room_tests t 0 qs) (refused r.outcome r.place t) (room_tests_gives t 0 qs) (own_tests_gives t [] 0 qs)
 
-module _ (ns : List ℕ) (done : Gives ns done) where
+module _ (ns : List ℕ) (nought : Gives ns done) where
   -- Removal.
   removing_gives : Gives ns (Err NotRegistered) → (ca ioa : ℕ) (t : Table) → Gives ns (unregistering ca ioa t).outcome
   unfolding unregistering
   removing_gives missing ca ioa t =
-      gives_effect ns (is_registered ioa (station_of ca t.stations)) (accepted 0 (removed t ca ioa)) (refused (Err NotRegistered) 0 t) done missing
+      gives_effect ns (is_registered ioa (station_of ca t.stations)) (accepted 0 (removed t ca ioa)) (refused (Err NotRegistered) 0 t) nought missing
 
   removing_all_gives : (t : Table) → Gives ns (unregistering_all t).outcome
   unfolding unregistering_all
-  removing_all_gives t = done
+  removing_all_gives t = nought
 
   -- What a command says, and the room for it: 5, which counts only where something is told, and 4.
   module _ (short : Gives ns (Err AnswerShort)) where
@@ -223,7 +224,7 @@ module _ (ns : List ℕ) (done : Gives ns done) where
     with_gives s l o told =
         let t = pick (fits s.told l.spontaneous) done (Err SpontaneousShort) in
         let a = pick (fits s.answer l.answer) done (Err AnswerShort) in
-        gives_first ns s.outcome (first_fault t a) o (gives_first ns t a told (gives_pick ns (fits s.answer l.answer) done (Err AnswerShort) done short))
+        gives_first ns s.outcome (first_fault t a) o (gives_first ns t a told (gives_pick ns (fits s.answer l.answer) done (Err AnswerShort) nought short))
 
     answered_gives : (f : Table → Said) (l : Lent) → Gives ns (Err TableNotWellFormed) → ((t : Table) → Gives ns (f t).outcome)
         → ((t : Table) → Gives ns (pick (fits (f t).told l.spontaneous) done (Err SpontaneousShort))) → Gives ns (answered_on f l).outcome
@@ -238,16 +239,16 @@ module _ (ns : List ℕ) (done : Gives ns done) where
     untold : (s : Said) (memory : List ℕ) → s.told ≡ [] → Gives ns (pick (fits s.told memory) done (Err SpontaneousShort))
     untold s memory e =
         let z : fits s.told memory ≡ true = ap (λ (x : List Asdu). leb (size x) (length memory)) e ∙ ap (λ (x : List ℕ). leb (length x) (length memory)) wire_none ∙ le-leb 0 (length memory) (omega arith) in
-        simp z done
+        simp z nought
 
   -- System commands.
   module _ (silent : Gives ns (Err Silent)) (malformed : Gives ns (Err Malformed)) where
     command_gives : (clock m : List ℕ) (c : Command) (t : Table) → Gives ns (command_said clock m c t).outcome
     unfolding command_said
     command_gives clock m c t =
-        gives_said ns (eqb c.kind interrogation_type) _ _ done
-        (gives_said ns (eqb c.kind counters_type) _ _ done
-        (gives_said ns (eqb c.kind read_type) _ _ done done))
+        gives_said ns (eqb c.kind interrogation_type) _ _ nought
+        (gives_said ns (eqb c.kind counters_type) _ _ nought
+        (gives_said ns (eqb c.kind read_type) _ _ nought nought))
 
     system_gives : (clock m : List ℕ) (r : Reading) (t : Table) → Gives ns (system_from clock m r t).outcome
     unfolding system_from
@@ -263,7 +264,7 @@ module _ (ns : List ℕ) (done : Gives ns done) where
     process_gives bad clock p (Err TypeNotServed) t = silent
     process_gives bad clock p (Err ObjectsNotWhole) t = malformed
     process_gives bad clock p (Ok c) t =
-        gives_said ns (process_cause_taken c.cause) _ _ (gives_said ns (proposal_ok (limit_of t) p.kind p.objects) _ _ done bad) silent
+        gives_said ns (process_cause_taken c.cause) _ _ (gives_said ns (proposal_ok (limit_of t) p.kind p.objects) _ _ nought bad) silent
 
 -- System commands tell nothing.
 pick_untold : (b : Bool) (x y : Said) → x.told ≡ [] → y.told ≡ [] → (pick b x y).told ≡ []
@@ -279,9 +280,7 @@ command_untold clock m c t =
 
 system_untold : (clock m : List ℕ) (r : Reading) (t : Table) → (system_from clock m r t).told ≡ []
 unfolding system_from
-system_untold clock m (Err LengthOutOfRange) t = refl
-system_untold clock m (Err TypeNotServed) t = refl
-system_untold clock m (Err ObjectsNotWhole) t = refl
+system_untold clock m (Err unread) t = refl
 system_untold clock m (Ok c) t = pick_untold (is_silent c m) _ _ refl (command_untold clock m c t)
 
 -- ---- every call
@@ -321,20 +320,20 @@ call_numbered (change unregister_all) l =
     (on_table (numbers_of (change unregister_all)) unregistering_all (record { is_one = refl }) (removing_all_gives (numbers_of (change unregister_all)) (record { is_one = refl })) l.table).is_one
 call_numbered (ask connection_started) l =
     let ns = numbers_of (ask connection_started) in
-    let done : Gives ns done = record { is_one = refl } in
+    let nought : Gives ns done = record { is_one = refl } in
     let short : Gives ns (Err AnswerShort) = record { is_one = refl } in
-    (answered_gives ns done short (start_said l.clock) l (record { is_one = refl }) (λ t. done) (λ t. untold ns done short (start_said l.clock t) l.spontaneous refl)).is_one
+    (answered_gives ns nought short (start_said l.clock) l (record { is_one = refl }) (λ t. nought) (λ t. untold ns nought short (start_said l.clock t) l.spontaneous refl)).is_one
 call_numbered (ask (system m)) l =
     let ns = numbers_of (ask (system [])) in
-    let done : Gives ns done = record { is_one = refl } in
+    let nought : Gives ns done = record { is_one = refl } in
     let short : Gives ns (Err AnswerShort) = record { is_one = refl } in
-    (answered_gives ns done short (system_said l.clock m) l (record { is_one = refl })
-    (λ t. system_gives ns done (record { is_one = refl }) (record { is_one = refl }) l.clock m _ t)
-    (λ t. untold ns done short (system_said l.clock m t) l.spontaneous (system_untold l.clock m _ t))).is_one
+    (answered_gives ns nought short (system_said l.clock m) l (record { is_one = refl })
+    (λ t. system_gives ns nought (record { is_one = refl }) (record { is_one = refl }) l.clock m _ t)
+    (λ t. untold ns nought short (system_said l.clock m t) l.spontaneous (system_untold l.clock m _ t))).is_one
 call_numbered (ask (process m n k r us)) l =
     let ns = numbers_of (ask (process [] 0 0 [] [])) in
-    let done : Gives ns done = record { is_one = refl } in
+    let nought : Gives ns done = record { is_one = refl } in
     let p = proposal_of (is_set n) k r us in
-    (answered_gives ns done (record { is_one = refl }) (process_said l.clock p m) l (record { is_one = refl })
-    (λ t. process_gives ns done (record { is_one = refl }) (record { is_one = refl }) (record { is_one = refl }) l.clock p _ t)
-    (λ t. gives_pick ns (fits (process_said l.clock p m t).told l.spontaneous) done (Err SpontaneousShort) done (record { is_one = refl }))).is_one
+    (answered_gives ns nought (record { is_one = refl }) (process_said l.clock p m) l (record { is_one = refl })
+    (λ t. process_gives ns nought (record { is_one = refl }) (record { is_one = refl }) (record { is_one = refl }) l.clock p _ t)
+    (λ t. gives_pick ns (fits (process_said l.clock p m t).told l.spontaneous) done (Err SpontaneousShort) nought (record { is_one = refl }))).is_one

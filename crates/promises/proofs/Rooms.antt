@@ -34,17 +34,6 @@ use Rattle.promises.specs.Shares.Turn.{turn_now, turn_later}
 
 -- ---- the share rule of a station of a good table
 
--- what the rule answers tells what the table gives, and the other way round
-full_is : (x : Outcome) → admission_outcome x ≡ (Err CeilingReached) → x ≡ (Err CeilingReached)
-full_is done e = let z : ◌≡◌ {A = ℕ} 0 19 = ap number_of e in absurd (omega arith)
-full_is (Err CeilingReached) e = refl
-full_is (Err NotAdmitted) e = let z : ◌≡◌ {A = ℕ} 20 19 = ap number_of e in absurd (omega arith)
-
-kept_is : (x : Outcome) → admission_outcome x ≡ (Err NotAdmitted) → x ≡ (Err NotAdmitted)
-kept_is done e = let z : ◌≡◌ {A = ℕ} 0 20 = ap number_of e in absurd (omega arith)
-kept_is (Err CeilingReached) e = let z : ◌≡◌ {A = ℕ} 19 20 = ap number_of e in absurd (omega arith)
-kept_is (Err NotAdmitted) e = refl
-
 module _ (t : Table) (ca : ℕ) (s : Station) (g : Good t) (f : station_of ca t.stations ≡ some s) where
   abbrev free_in_lem : ℕ
   free_in_lem = free_of t.capacity (map share_of t.stations)
@@ -52,28 +41,28 @@ module _ (t : Table) (ca : ℕ) (s : Station) (g : Good t) (f : station_of ca t.
   abbrev unmet_in_lem : ℕ
   unmet_in_lem = total unmet_of (map share_of t.stations)
 
-  ceiling_rule : Exactly (room_fault t (some s) ≡ (Err CeilingReached)) (AtCeiling t s)
+  ceiling_rule : Exactly (room_fault t (some s) ≡ Err CeilingReached) (AtCeiling t s)
   unfolding room_fault
   ceiling_rule =
       let h = (station_numbers t ca s g f).held_within in
       record {
-        only = λ e. let c = at_ceiling_only (share_of s) free_in_lem unmet_in_lem (full_is (admission_in t.capacity (map share_of t.stations) (share_of s)) e) in omega arith;
-        always = λ e. ap admission_outcome (at_ceiling (share_of s) free_in_lem unmet_in_lem (omega arith));
+        only = λ e. let c = at_ceiling_only (share_of s) free_in_lem unmet_in_lem e in omega arith;
+        always = λ e. (at_ceiling (share_of s) free_in_lem unmet_in_lem (omega arith));
       }
 
-  room_rule : Exactly (room_fault t (some s) ≡ (Err NotAdmitted)) (NotAdmittedIn t s)
+  room_rule : Exactly (room_fault t (some s) ≡ Err NotAdmitted) (NotAdmittedIn t s)
   unfolding room_fault
   room_rule =
       let h : total held_of (map share_of t.stations) ≡ total held t.stations = total_held t.stations in
       let u : total unmet_of (map share_of t.stations) ≡ total unmet t.stations = total_unmet t.stations in
       record {
         only = λ e.
-            let n = no_room_only (share_of s) free_in_lem unmet_in_lem (kept_is (admission_in t.capacity (map share_of t.stations) (share_of s)) e) in
+            let n = no_room_only (share_of s) free_in_lem unmet_in_lem e in
             let k = n.kept in
             record { below_ceiling = n.below_ceiling; reservation_met = n.met; free_is_kept = omega arith };
         always = λ n.
             let k = n.free_is_kept in
-            ap admission_outcome (no_room (share_of s) free_in_lem unmet_in_lem (record { below_ceiling = n.below_ceiling; met = n.reservation_met; kept = omega arith }));
+            (no_room (share_of s) free_in_lem unmet_in_lem (record { below_ceiling = n.below_ceiling; met = n.reservation_met; kept = omega arith }));
       }
 
 -- A rule: an outcome of the room test other than Done, and what it says of a table and a station.

@@ -5,33 +5,33 @@ use mathlib.Core.List.{List, [], ◌∷◌}
 use mathlib.Core.Bool.{Bool, true, false}
 use mathlib.Core.Option.{Option, some}
 use mathlib.Core.Logic.{⊎_elim}
-use Prim.Native.Nat.{ℕ, ◌<◌}
+use Prim.Native.Nat.{ℕ, ◌+◌, ◌-◌, ◌<◌}
 use native.Mathlib.Omega.{arith}
 use lib.ListN.{length}
 use lib.Dec.{eqb}
-use Rattle.limits.specs.Test.{pick}
+use Rattle.limits.specs.Test.{◌&◌, pick}
 use Rattle.std.specs.Prelude.{Err}
 use Rattle.limits.specs.Outcome.{Outcome, done, is_done, number_of}
 use Rattle.limits.specs.declared.outcome.Refusal.TheVariants.{CeilingReached, NotAdmitted}
-use Rattle.limits.proofs.Outcomes.{not_both}
+use Rattle.limits.proofs.Outcomes.{not_both, done_number}
 use Rattle.model.specs.declared.Request.{Request}
 use Rattle.model.specs.Request.{request_at}
 use Rattle.table.specs.Table.{Station, Table, held}
 use Rattle.table.specs.Change.{station_of}
 use Rattle.table.proofs.Parse.{Good, good_is, is_good}
-use Rattle.registry.specs.Effect.{Reply as TableReply, reply_from, reply_on}
+use Rattle.registry.specs.Effect.{Reply as TableReply, reply_from, reply_on, memory_on}
 use Rattle.registry.specs.Opening.{planned, opens, fresh, opened_memory}
 use Rattle.registry.specs.Registry.{room_fault, request_outcome, registering, registering_all}
-use Rattle.registry.specs.History.{held_by, tally_after, memory_after as memory_after_all}
+use Rattle.registry.specs.History.{effect_of, held_by, counted, requests_of, tally_after, memory_after as memory_after_all}
 use Rattle.registry.specs.History.Call.{command}
 use Rattle.registry.proofs.Batches.{own_tests_ready, turn_good}
-use Rattle.registry.proofs.Histories.{After, history, station_numbers, below_reservation_has_room, granted_alone}
+use Rattle.registry.proofs.Histories.{After, recounted, history, station_numbers, below_reservation_has_room, granted_alone}
 use Rattle.opening.proofs.Fresh.{opens_good, opened_parses, refused as refused-opening}
 use Rattle.batch_records.specs.Records.{requests_in}
 use Rattle.batch_records.proofs.Laws.{all_twelve}
 use Rattle.answers.specs.Said.{Lent}
 use Rattle.answers.proofs.Common.{effect_in, command_effect}
-use Rattle.khuvelter.specs.Calls.{Call, said_by, reply_to, left_by}
+use Rattle.khuvelter.specs.Calls.{Change, Call, said_by, reply_to, left_by}
 use Rattle.khuvelter.specs.Calls.Change.{register_point, register_points, unregister_point, unregister_all}
 use Rattle.khuvelter.specs.Calls.Call.{open_table, change, ask}
 use Rattle.promises.specs.Shares.{Step, lent_at, memory_after, Books, opened_books, entered, books_after, Registrable, AtCeiling, NotAdmittedIn, Alone, AtTurn, Exactly, Stands, TheShares}
@@ -85,13 +85,37 @@ module _ (b : Books) (l : Lent) (a : Kept b l.table) where
           subst (λ (x : Books). Kept x (opened_memory k plan l.table)) (sym n)
           (subst (λ (m : List ℕ). Kept b m) (sym (refused-opening k plan l.table e)) a)
 
+  -- the outcome of a change, and its station's tally as the history counts it
+  outcome_in : Change → Outcome
+  outcome_in c = (reply_on (effect_of (registered c)) l.table).outcome
+
+  -- counted by outcome or by number a change is counted alike
+  same_count : (c : Change) (ca : ℕ) → counted ca (registered c) (reply_on (effect_of (registered c)) l.table) (b.tally ca)
+      ≡ (entered b (change c) (reply_to (change c) l)).tally ca
+  unfolding outcome_in
+  same_count (register_point q) ca = λ j.
+      record { granted = (b.tally ca).granted + pick (done_number (outcome_in (register_point q)) j & eqb (request_at q 0).ca ca) 1 0; removed = (b.tally ca).removed + 0 }
+  same_count (register_points qs) ca = λ j.
+      record { granted = (b.tally ca).granted + pick (done_number (outcome_in (register_points qs)) j) (requests_of ca (requests_in qs)) 0; removed = (b.tally ca).removed + 0 }
+  same_count (unregister_point c ioa) ca = λ j.
+      record { granted = (b.tally ca).granted + 0; removed = (b.tally ca).removed + pick (done_number (outcome_in (unregister_point c ioa)) j & eqb c ca) 1 0 }
+  same_count unregister_all ca = λ j.
+      record {
+        granted = (b.tally ca).granted + 0;
+        removed = (b.tally ca).removed + pick (done_number (outcome_in unregister_all) j) ((b.tally ca).granted - (b.tally ca).removed) 0;
+      }
+
+  change_kept : (c : Change) → After b.capacity b.plan (memory_on (effect_of (registered c)) l.table) (entered b (change c) (reply_to (change c) l)).tally
+  unfolding memory_after_all tally_after
+  change_kept c = recounted _ _ _ _ _ (same_count c) (history b.capacity b.plan l.table b.tally (registered c ∷ []) a)
+
   call_kept : (c : Call) → Kept (entered b c (reply_to c l)) (left_by c l).table
   unfolding memory_after_all tally_after
   call_kept (open_table k plan) = opening_kept k plan
-  call_kept (change (register_point q)) = history b.capacity b.plan l.table b.tally (registered (register_point q) ∷ []) a
-  call_kept (change (register_points qs)) = history b.capacity b.plan l.table b.tally (registered (register_points qs) ∷ []) a
-  call_kept (change (unregister_point ca ioa)) = history b.capacity b.plan l.table b.tally (registered (unregister_point ca ioa) ∷ []) a
-  call_kept (change unregister_all) = history b.capacity b.plan l.table b.tally (registered unregister_all ∷ []) a
+  call_kept (change (register_point q)) = change_kept (register_point q)
+  call_kept (change (register_points qs)) = change_kept (register_points qs)
+  call_kept (change (unregister_point ca ioa)) = change_kept (unregister_point ca ioa)
+  call_kept (change unregister_all) = change_kept unregister_all
   call_kept (ask q) =
       let f = said_by q l.clock in
       let h = history b.capacity b.plan l.table b.tally (command (effect_in f l) (quiet q l) ∷ []) a in

@@ -12,6 +12,7 @@ use lib.Dec.{eqb}
 use borrow.Author.Tests.{eqb-false}
 use Rattle.limits.specs.Test.{◌&◌, pick, total}
 use Rattle.std.specs.Prelude.{Ok, Err, Some, None}
+use Rattle.limits.specs.declared.outcome.Refusal.{Refusal}
 use Rattle.limits.specs.Outcome.{Outcome, done, is_done}
 use Rattle.limits.specs.declared.outcome.Refusal.TheVariants.{Silent, BadProposal}
 use Rattle.asdu.specs.Command.{Reading, read_as}
@@ -292,33 +293,29 @@ module _ (m : List ℕ) (c : Command) (t : Table) (g : Good t) (w : WellRead (li
       (pick_small (eqb c.kind counters_type) _ _ (record { is_small = counter_small })
       (pick_small (eqb c.kind read_type) _ _ (record { is_small = read_small _ asked }) (record { is_small = omega arith })))
 
-unsaid_small : (o : Outcome) (t : Table) (clock : List ℕ) → Small (unsaid o t clock)
-unsaid_small o t clock = record { is_small = let n = ap length wire_none in omega arith }
+unsaid_small : (r : Refusal) (t : Table) (clock : List ℕ) → Small (unsaid r t clock)
+unsaid_small r t clock = record { is_small = let n = ap length wire_none in omega arith }
 
 -- What any system command says: at most 4,000,000 octets.
 system_small : (clock m : List ℕ) (t : Table) → Good t → (r : Reading) → read_as (limit_of t) SystemCommands m ≡ r → Small (system_from clock m r t)
 unfolding system_from is_silent
-system_small clock m t g (Err LengthOutOfRange) e = unsaid_small _ t clock
-system_small clock m t g (Err TypeNotServed) e = unsaid_small _ t clock
-system_small clock m t g (Err ObjectsNotWhole) e = unsaid_small _ t clock
+system_small clock m t g (Err unread) e = unsaid_small _ t clock
 system_small clock m t g (Ok c) e = by_count (eqb c.count 0) refl
   where
     by_count : (b : Bool) → eqb c.count 0 ≡ b
         → Small (pick (b || (not (cause_taken c.kind c.cause) || (eqb c.kind interrogation_type & eqb (qualifier_of m) 0))) (unsaid Silent t clock) (command_said clock m c t))
-    by_count true n = unsaid_small (Err Silent) t clock
+    by_count true n = unsaid_small Silent t clock
     by_count false n =
         pick_small (not (cause_taken c.kind c.cause) || (eqb c.kind interrogation_type & eqb (qualifier_of m) 0)) (unsaid Silent t clock) (command_said clock m c t)
-        (unsaid_small (Err Silent) t clock)
+        (unsaid_small Silent t clock)
         (command_small m c t g (parsed_is (limit_of t) SystemCommands m c e) (ne_zero c.count (eqb-false _ _ n)) clock)
 
 -- What any process command says to the answer memory.
 process_small : (clock : List ℕ) (p : Proposal) (t : Table) → Good t → (r : Reading) → Small (process_from clock p r t)
 unfolding process_from
-process_small clock p t g (Err LengthOutOfRange) = unsaid_small _ t clock
-process_small clock p t g (Err TypeNotServed) = unsaid_small _ t clock
-process_small clock p t g (Err ObjectsNotWhole) = unsaid_small _ t clock
+process_small clock p t g (Err unread) = unsaid_small _ t clock
 process_small clock p t g (Ok c) =
-    pick_small (process_cause_taken c.cause) _ _ (by_proposal (proposal_ok (limit_of t) p.kind p.objects) refl) (unsaid_small (Err Silent) t clock)
+    pick_small (process_cause_taken c.cause) _ _ (by_proposal (proposal_ok (limit_of t) p.kind p.objects) refl) (unsaid_small Silent t clock)
   where
     by_proposal : (b : Bool) → proposal_ok (limit_of t) p.kind p.objects ≡ b
         → Small (pick b (record { outcome = done; answer = process_reply c p ∷ []; told = told_by t (read_updates p); after = table_after t (read_updates p); clock = clock }) (unsaid BadProposal t clock))
@@ -328,7 +325,7 @@ process_small clock p t g (Ok c) =
         let l = length_confirmed c p (whole_reply (limit_of t) p.kind p.objects e) in
         let d = size_one (process_reply c p) in
         record { is_small = omega arith }
-    by_proposal false e = unsaid_small (Err BadProposal) t clock
+    by_proposal false e = unsaid_small BadProposal t clock
 
 -- What any question says to a good table.
 pub question_small : (q : Question) (clock : List ℕ) (t : Table) → Good t → Small (said_by q clock t)

@@ -3,6 +3,8 @@
 use mathlib.Core.Path.{◌≡◌, sym, ◌∙◌}
 use mathlib.Core.List.{List}
 use Prim.Native.Nat.{ℕ}
+use Rattle.std.specs.Prelude.{Result}
+use Rattle.limits.specs.declared.outcome.Refusal.{Refusal}
 use Rattle.limits.specs.Outcome.{Outcome}
 use Rattle.table.specs.Table.{Table}
 use Rattle.registry.specs.Effect.{Reply, Effect}
@@ -29,7 +31,7 @@ pub one_opening : (k : ℕ) (plan m : List ℕ) (r r' : Outcome) (n n' : List �
 one_opening k plan m r r' n n' p q = (same p.0 q.0, same p.1 q.1)
 
 -- The share of a station.
-pub one_share : (ca : ℕ) (m : List ℕ) (r r' : StationShare) → r ≡ share_on ca m → r' ≡ share_on ca m → r ≡ r'
+pub one_share : (ca : ℕ) (m : List ℕ) (r r' : Result StationShare Refusal) → r ≡ share_on ca m → r' ≡ share_on ca m → r ≡ r'
 one_share ca m r r' p q = same p q
 
 -- The start of a connection, system and process commands: what comes back, and every memory.

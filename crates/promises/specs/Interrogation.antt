@@ -1,8 +1,9 @@
 -- Demand 2: "Answers … are proved against definitions from IEC 60870-5-101 and -104. … An accepted global or group interrogation of one station reports
 -- exactly the selected points, each once, by type then address, in full-as-allowed ASDUs between confirmation and termination."
 -- Every entry's contract is one equation to a definition (khuvelter/specs/Calls, `reply_to` and `left_by`), so each has one right answer.
-use Rattle.std.specs.Prelude.{ℕ, ◌≤◌, ◌<◌, ◌≡◌, List, [], ◌∷◌, ◌++◌, true, false, length, eqb, Ok, Err, Some}
+use Rattle.std.specs.Prelude.{Result, ℕ, ◌≤◌, ◌<◌, ◌≡◌, List, [], ◌∷◌, ◌++◌, true, false, length, eqb, Ok, Err, Some}
 use Rattle.std.proofs.Math.Option.{some}
+use Rattle.limits.specs.declared.outcome.Refusal.{Refusal}
 use Rattle.limits.specs.Outcome.{Outcome}
 use Rattle.octets.specs.Number.{Octets}
 use Rattle.model.specs.declared.Point.{Point}
@@ -12,7 +13,9 @@ use Rattle.table.specs.Change.{station_of}
 use Rattle.table.specs.Memory.{table_of, well_formed}
 use Rattle.registry.specs.Effect.{Reply as TableReply, Effect}
 use Rattle.registry.specs.declared.StationShare.{StationShare}
-use Rattle.replies.specs.Replies.{Replies}
+use Rattle.registry.specs.declared.Fault.{Fault}
+use Rattle.answers.specs.declared.Written.{Written}
+use Rattle.replies.specs.Replies.{Replies, placeless, numbered, placed}
 use Rattle.registry.specs.Opening.{open_outcome, opened_memory}
 use Rattle.registry.specs.Registry.{share_on}
 use Rattle.asdu.specs.Cause.{activation}
@@ -24,7 +27,7 @@ use Rattle.report.specs.declared.Selection.{Selection}
 use Rattle.report.specs.Packing.{selected, counted}
 use Rattle.report.specs.Selection.{selects, interrogation_types_of}
 use Rattle.report.specs.Report.{ordered, report}
-use Rattle.answers.specs.Said.{Answered, Said, Lent, lent, size, fronted, given, answered_on, Leaves, as_it_is}
+use Rattle.answers.specs.Said.{Answered, answered, Said, Lent, lent, size, fronted, given, answered_on, Leaves, as_it_is}
 use Rattle.answers.specs.System.{interrogation_type, qualifier_of, confirmed, terminated, interrogated, system_said}
 use Rattle.faithful.specs.Faithful.{Faithful}
 use Rattle.khuvelter.specs.Interface.{flat_share}
@@ -86,7 +89,12 @@ pub record TheRightAnswer : Type 0 where
       → Replies f m r n → Replies f m r' n' → (r ≡ r') × (n ≡ n')
   pub one_opening : (k : ℕ) (plan m : List ℕ) (r r' : Outcome) (n n' : List ℕ)
       → (r ≡ open_outcome k plan m) × (n ≡ opened_memory k plan m) → (r' ≡ open_outcome k plan m) × (n' ≡ opened_memory k plan m) → (r ≡ r') × (n ≡ n')
-  pub one_station_share : (ca : ℕ) (m : List ℕ) (r r' : StationShare) → r ≡ share_on ca m → r' ≡ share_on ca m → r ≡ r'
+  pub one_station_share : (ca : ℕ) (m : List ℕ) (r r' : Result StationShare Refusal) → r ≡ share_on ca m → r' ≡ share_on ca m → r ≡ r'
   -- `connection_started`, `system_command`, `process_command`.
   pub one_answer : (f : Table → Said) (before : Lent) (r r' : Answered) (after after' : Lent)
       → Leaves as_it_is f before r after → Leaves as_it_is f before r' after' → (r ≡ r') × (after ≡ after')
+  -- The contracts inside speak of what is seen of a result; that tells the result.
+  pub placeless_tells : (a b : Outcome) → placeless a ≡ placeless b → a ≡ b
+  pub numbered_tells : (a b : Result ℕ Refusal) → numbered a ≡ numbered b → a ≡ b
+  pub placed_tells : (a b : Result Unit Fault) → placed a ≡ placed b → a ≡ b
+  pub answered_tells : (a b : Result Written Refusal) → answered a ≡ answered b → a ≡ b

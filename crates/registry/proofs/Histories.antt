@@ -283,6 +283,19 @@ pub record After (k : ℕ) (lines : List Line) (m : List ℕ) (tally : ℕ → T
   pub plan : map line_of table.stations ≡ lines
   pub counts : (ca : ℕ) → (tally ca).granted ≡ held_at ca table + (tally ca).removed
 
+-- The same of tallies that are equal.
+pub recounted : (k : ℕ) (lines : List Line) (m : List ℕ) (f g : ℕ → Tally) → ((ca : ℕ) → f ca ≡ g ca) → After k lines m f → After k lines m g
+recounted k lines m f g e a =
+    record {
+      table = a.table;
+      read = a.read;
+      is_good = a.is_good;
+      capacity = a.capacity;
+      plan = a.plan;
+      counts = λ ca.
+          ap (λ (n : Tally). n.granted) (sym (e ca)) ∙ a.counts ca ∙ ap (λ (n : Tally). held_at ca a.table + n.removed) (e ca);
+    }
+
 pub history : (k : ℕ) (lines : List Line) (m : List ℕ) (n : ℕ → Tally) (cs : List Call) → After k lines m n
     → After k lines (memory_after m cs) (λ ca. tally_after ca (n ca) m cs)
 unfolding memory_after tally_after
