@@ -26,12 +26,5 @@ pub fn stands_before(records: &[u8], ca: usize, ioa: usize, n: usize) -> bool
     requires { record_octets * n ≤ length records.now }
     ensures { result ≡ stands_before records.now ca ioa n }
 {
-    let mut left = n;
-    while 0 < left {
-        left -= 1;
-        if has_address(records, RECORD_OCTETS * left, ca, ioa) {
-            return true;
-        }
-    }
-    false
+    (0..n).rev().any(|i| has_address(records, RECORD_OCTETS * i, ca, ioa))
 }

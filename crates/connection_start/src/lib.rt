@@ -30,14 +30,11 @@ fn station_common_address(m: &[u8], at: usize, n: usize) -> usize
     requires { at + station_size * n ≤ length m.now }
     ensures { (result ≡ common_address_at m.now at n) × (result < 65536) }
 {
-    let mut station = at;
-    let mut left = n;
-    while 0 < left {
+    for i in 0..n {
+        let station = at + STATION_SIZE * i;
         if layout::held_at(m, station) != 0 {
             return octets::two_at(m, station);
         }
-        station += STATION_SIZE;
-        left -= 1;
     }
     0
 }

@@ -29,16 +29,13 @@ pub fn take_out(m: &mut [u8], i: usize, h: usize, at: usize)
 }
 
 // The held of each of the n stations from `at` becomes 0.
+#[tactic(auto, using(crate::proofs::Emptied::none_held_on, crate::proofs::Emptied::none_held_end, octets::proofs::Laws::length_over))]
 fn none_held(m: &mut [u8], at: usize, n: usize)
     requires { at + station_size * n ≤ length m.old }
     ensures { m.new ≡ none_held m.old at n }
 {
-    let mut station = at;
-    let mut left = n;
-    while 0 < left {
-        octets::put_two(m, station + HELD_OFFSET, 0);
-        station += STATION_SIZE;
-        left -= 1;
+    for i in 0..n {
+        octets::put_two(m, at + STATION_SIZE * i + HELD_OFFSET, 0);
     }
 }
 

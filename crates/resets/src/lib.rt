@@ -31,15 +31,12 @@ fn reset_place(m: &mut [u8], at: usize, selection: Selection)
 }
 
 // Sets the selected counters among the n places from `first` to 0.
+#[tactic(auto, using(crate::proofs::Turns::reset_on, crate::proofs::Turns::reset_end, crate::proofs::Turns::length_place))]
 pub fn reset(m: &mut [u8], first: usize, n: usize, selection: Selection)
     requires { first + place_size * n ≤ length m.old }
     ensures { m.new ≡ reset_places selection m.old first n }
 {
-    let mut at = first;
-    let mut left = n;
-    while 0 < left {
-        reset_place(m, at, selection);
-        at += PLACE_SIZE;
-        left -= 1;
+    for i in 0..n {
+        reset_place(m, first + PLACE_SIZE * i, selection);
     }
 }
