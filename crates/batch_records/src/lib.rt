@@ -26,5 +26,5 @@ pub fn stands_before(records: &[u8], ca: usize, ioa: usize, n: usize) -> bool
     requires { record_octets * n ≤ length records.now }
     ensures { result ≡ stands_before records.now ca ioa n }
 {
-    (0..n).rev().any(|i| has_address(records, RECORD_OCTETS * i, ca, ioa))
+    (0..n).any(|i| has_address(records, RECORD_OCTETS * i, ca, ioa))
 }
