@@ -1,3 +1,4 @@
 pub mod Heads
 pub mod Turns
 pub mod Shares
+pub mod Tests
