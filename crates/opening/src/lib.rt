@@ -91,6 +91,7 @@ fn reservations(plan: &[u16], n: usize) -> usize
 }
 
 // Is the plan of n stations valid under K?
+#[tactic(auto, using(crate::proofs::Tests::k_zero, crate::proofs::Tests::k_high, crate::proofs::Tests::no_station, crate::proofs::Tests::many_stations, crate::proofs::Tests::plan_bad, crate::proofs::Tests::reserved_test))]
 fn plan_ok(plan: &[u16], k: usize, n: usize) -> bool
     requires { length plan.now ≡ 3 * n }
     ensures { result ≡ valid_plan k (planned plan.now) }
@@ -114,6 +115,7 @@ fn plan_ok(plan: &[u16], k: usize, n: usize) -> bool
 }
 
 // May a table of capacity K be opened under the plan in a memory of `octets` octets?
+#[tactic(auto, using(crate::proofs::Tests::part_left, crate::proofs::Tests::plan_refused, crate::proofs::Tests::room_test, crate::proofs::Tests::k_few, crate::proofs::Tests::stations_few))]
 pub fn may_open(plan: &[u16], k: usize, octets: usize) -> bool
     ensures { result ≡ opens k plan.now octets }
 {

@@ -1,6 +1,5 @@
-use mathlib.Core.Path.{◌≡◌, ◌∙◌}
+use mathlib.Core.Path.{◌∙◌}
 use Prim.Native.Nat.{◌+◌, ◌*◌}
-use lib.ListN.{get_or}
 use Rattle.octets.specs.Over.{over}
 use Rattle.table.specs.Table.{eight}
 use Rattle.opening.proofs.Plan.{put_on, put_end}

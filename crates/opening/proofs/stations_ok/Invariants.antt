@@ -1,6 +1,6 @@
 -- One station a turn: the plan from the station of index i on, above the running lower bound, is what is still to be tested.
 use mathlib.Core.Path.{◌≡◌}
-use Prim.Native.Nat.{◌*◌, ◌≤◌}
+use Prim.Native.Nat.{◌*◌}
 use lib.ListN.{drop}
 use Rattle.table.specs.Table.{plan_ok}
 use Rattle.registry.specs.Opening.{planned}
