@@ -17,20 +17,18 @@ use layout::{
     HEAD_SIZE, HELD_OFFSET, MOST_PLACES, MOST_STATIONS, PLACE_SIZE, POINTS_OFFSET, STATION_SIZE,
 };
 use limits::outcome::Outcome;
-use octets::wide16;
 use registry::Reply;
 
 // Adds to what each of the n stations from `at` holds what it took in.
+#[tactic(auto, using(crate::proofs::Raised::raise_on, crate::proofs::Raised::raise_fits, crate::proofs::Raised::raisable_on, crate::proofs::Raised::raise_end, octets::proofs::Laws::length_over))]
 fn raise_held(m: &mut [u8], taken: &[u16; MOST_STATIONS], at: usize, n: usize)
     requires { (n ≤ most_stations) × (at + station_size * n ≤ length m.old) × Raisable m.old taken.now 0 at n }
     ensures { m.new ≡ raised m.old taken.now 0 at n }
 {
-    let mut i: usize = 0;
-    while i < n {
+    for i in 0..n {
         let to = at + STATION_SIZE * i + HELD_OFFSET;
         let held = octets::two_at(m, to);
-        octets::put_two(m, to, held + wide16(taken[i]));
-        i += 1;
+        octets::put_two(m, to, held + usize::from(taken[i]));
     }
 }
 
