@@ -36,6 +36,7 @@ fn settings_ok(m: &[u8]) -> bool
 }
 
 // The mark, K from 1 to 4,096, 1 to 64 stations, memory enough, the settings, spare octets zero.
+#[tactic(auto, using(crate::proofs::Heads::short, crate::proofs::Heads::no_mark, crate::proofs::Heads::no_capacity, crate::proofs::Heads::much_capacity, crate::proofs::Heads::no_station, crate::proofs::Heads::many_stations, crate::proofs::Heads::no_room, crate::proofs::Heads::no_settings, crate::proofs::Heads::spare_test))]
 fn head_ok(m: &[u8]) -> bool
     ensures { result ≡ head_at m.now }
 {
@@ -220,6 +221,7 @@ fn bodies_ok(m: &[u8], at: usize, n: usize, limits: &[usize; PLACE_LIMITS]) -> b
 }
 
 // The places of n stations and the unused places after them.
+#[tactic(auto, using(crate::proofs::Whole::bodies_bad, crate::proofs::Whole::unused_test))]
 fn places_and_unused(m: &[u8], k: usize, n: usize, points: usize) -> bool
     requires { (after_places k + station_size * n ≤ length m.now) × (points ≤ k) × (points ≡ sum_at held_at m.now (after_places k) n) }
     ensures { result ≡ places_at m.now k n points }
@@ -236,6 +238,7 @@ fn places_and_unused(m: &[u8], k: usize, n: usize, points: usize) -> bool
 }
 
 // Does the memory hold a well-formed table?
+#[tactic(auto, using(crate::proofs::Heads::head_long, crate::proofs::Heads::head_room, crate::proofs::Heads::head_few, crate::proofs::Whole::points_are, crate::proofs::Whole::points_few, crate::proofs::Whole::head_bad, crate::proofs::Whole::shares_bad, crate::proofs::Whole::places_test))]
 pub fn well_formed(m: &[u8]) -> bool
     ensures { result ≡ well_formed m.now }
 {
