@@ -1,5 +1,5 @@
 -- The turns of the loops over the stations. Assumes nothing.
-use mathlib.Core.Path.{◌≡◌, ap, ◌∙◌}
+use mathlib.Core.Path.{◌≡◌, refl, ap, ◌∙◌}
 use mathlib.Core.List.{List}
 use mathlib.Core.Bool.{true, false}
 use Prim.Native.Nat.{ℕ, zero, suc, ◌+◌, ◌*◌, ◌-◌, ◌≤◌, ◌<◌}
@@ -9,7 +9,11 @@ use Rattle.layout.specs.Layout.{ca_at, held_at}
 use Rattle.model.specs.Place.{places_ok}
 use Rattle.table.specs.Memory.{sum_at, numbers_at, plan_at, bodies_at}
 
--- The sum over one station more.
+-- The sum over no station, and over one more.
+pub sum_none : (f : List ℕ → ℕ → ℕ) (m : List ℕ) (at : ℕ) → sum_at f m at 0 ≡ 0
+unfolding sum_at
+sum_none f m at = refl
+
 pub sum_more : (f : List ℕ → ℕ → ℕ) (m : List ℕ) (at i : ℕ) → sum_at f m at (i + 1) ≡ sum_at f m at i + f m (at + 8 * i)
 unfolding sum_at
 sum_more f m at zero =

@@ -165,6 +165,7 @@ pub fn share_at(m: &[u8], at: usize) -> Share
 }
 
 // Reservations, held and unmet room of the n stations from `at`, each added up.
+#[tactic(auto, using(crate::proofs::Turns::sum_none, crate::proofs::Turns::sum_more, limits::proofs::Shares::unmet_is))]
 pub fn add_up(m: &[u8], at: usize, n: usize) -> Sums
     requires { (at + station_size * n ≤ length m.now) × (n ≤ most_stations) }
     ensures { AddedUp m.now at n result }
