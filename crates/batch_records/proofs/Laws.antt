@@ -4,8 +4,11 @@ use mathlib.Core.List.{List, [], ◌∷◌}
 use mathlib.Core.Bool.{Bool, true, false, ◌||◌}
 use Prim.Native.Nat.{ℕ, zero, suc, ◌+◌, ◌*◌, ◌-◌, ◌≤◌, ◌<◌}
 use native.Mathlib.Omega.{arith}
+use lib.Dec.{eqb}
+use borrow.Author.Tests.{eq-eqb, ne_eqb}
 use Rattle.std.specs.List.{list_any, range_with_len}
-use Rattle.limits.specs.Test.{pick}
+use Rattle.limits.specs.Test.{◌&◌, pick}
+use Rattle.octets.specs.Number.{two, four}
 use Rattle.model.specs.declared.Request.{Request}
 use Rattle.model.specs.Request.{request_at, requests_at}
 use Rattle.registry.specs.Registry.{stands_in}
@@ -39,6 +42,17 @@ all_twelve m at zero = tt
 all_twelve m at (suc n) = (refl, all_twelve m (at + 24) n)
 
 -- ---- an address that stands earlier
+
+module _ (m : List ℕ) (at ca ioa : ℕ) where
+  -- another CA
+  pub ca_differs : (two m at ≡ ca → ⊥) → has_address m at ca ioa ≡ false
+  unfolding has_address ◌&◌
+  ca_differs e = simp (ne_eqb _ _ e)
+
+  -- the same CA
+  pub ioa_test : two m at ≡ ca → has_address m at ca ioa ≡ eqb (four m (at + 2)) ioa
+  unfolding has_address ◌&◌
+  ioa_test e = simp (eq-eqb _ _ e)
 
 -- What the code finds is what the definition of a batch asks.
 pub stands_law : (m : List ℕ) (q : Request) (n : ℕ) → stands_in q (earlier_at m n) ≡ stands_before m q.ca q.ioa n

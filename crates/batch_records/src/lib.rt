@@ -11,6 +11,7 @@ pub const RECORD_OCTETS: usize = 24;
 pub const IOA_IN_RECORD: usize = 2;
 
 // Has the record at `at` this address?
+#[tactic(auto, using(crate::proofs::Laws::ca_differs, crate::proofs::Laws::ioa_test))]
 fn has_address(records: &[u8], at: usize, ca: usize, ioa: usize) -> bool
     requires { at + record_octets ≤ length records.now }
     ensures { result ≡ has_address records.now at ca ioa }
