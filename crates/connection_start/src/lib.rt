@@ -40,6 +40,7 @@ fn station_common_address(m: &[u8], at: usize, n: usize) -> usize
 }
 
 // Writes the end of initialisation at the front of `out`: type 70, cause 4, IOA 0, octet 0.
+#[tactic(auto, using(report::proofs::Single::length_end), unfolding(report::specs::Single::end_of_initialization_asdu, asdu::specs::Header::asdu_octets, asdu::specs::Header::object_octets, asdu::specs::Joined::joined))]
 fn end_of_initialization_asdu(out: &mut [u8], ca: usize) -> usize
     requires { (ca < 65536) × (length (asdu_octets (end_of_initialization_asdu ca)) ≤ length out.old) }
     ensures { Puts (asdu_octets (end_of_initialization_asdu ca)) out.old result out.new }
