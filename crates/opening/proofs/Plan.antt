@@ -1,10 +1,10 @@
 -- A plan read three numbers at a time: how many stations it has, its next station, and the turns of the loops over it. Assumes nothing.
-use mathlib.Core.Path.{◌≡◌, sym, ap, ◌∙◌, subst}
+use mathlib.Core.Path.{◌≡◌, refl, sym, ap, ◌∙◌, subst}
 use mathlib.Core.List.{List, [], ◌∷◌, ◌++◌}
 use mathlib.Core.Bool.{true, false}
-use Prim.Native.Nat.{ℕ, zero, suc, ◌+◌, ◌*◌, ◌≤◌}
+use Prim.Native.Nat.{ℕ, suc, ◌+◌, ◌*◌, ◌-◌, ◌/◌, ◌≤◌, ◌<◌}
 use native.Mathlib.Omega.{arith}
-use lib.ListN.{length, drop, get_or, drop_of_length-le}
+use lib.ListN.{length, drop, get_or, length-drop}
 use lib.Seq.{drop-cons}
 use borrow.Author.Tests.{leb-true}
 use Rattle.limits.specs.Test.{◌&◌, total}
@@ -14,14 +14,13 @@ use Rattle.registry.specs.Opening.{planned, valid_plan}
 use Rattle.octets.specs.Over.{over}
 use Rattle.octets.proofs.Log.{Log, log_step, log_end}
 
--- A plan of three times n numbers has n stations.
-pub length_planned : (plan : List ℕ) (n : ℕ) → length plan ≡ 3 * n → length (planned plan) ≡ n
+-- A plan has a third as many stations as numbers.
+pub length_planned : (plan : List ℕ) → length (planned plan) ≡ length plan / 3
 unfolding planned
-length_planned [] n e = omega arith
-length_planned (a ∷ []) n e = absurd (omega arith)
-length_planned (a ∷ (b ∷ [])) n e = absurd (omega arith)
-length_planned (a ∷ (b ∷ (c ∷ rest))) zero e = absurd (omega arith)
-length_planned (a ∷ (b ∷ (c ∷ rest))) (suc n) e = ap suc (length_planned rest n (omega arith))
+length_planned [] = omega arith
+length_planned (a ∷ []) = omega arith
+length_planned (a ∷ (b ∷ [])) = omega arith
+length_planned (a ∷ (b ∷ (c ∷ rest))) = let ih = length_planned rest in omega arith
 
 -- A valid plan keeps to the bounds on K and on stations.
 pub valid_bounds : (k : ℕ) (ss : List Station) → valid_plan k ss ≡ true → (k ≤ 4096) × (length ss ≤ 64)
@@ -36,6 +35,14 @@ valid_bounds k ss t =
 -- a station of three numbers, with no points
 abbrev pub station_of : ℕ → ℕ → ℕ → Station
 station_of ca r c = record { ca = ca; reservation = r; ceiling = c; points = [] }
+
+-- fewer than three numbers are no station
+part_left : (plan : List ℕ) → length plan < 3 → planned plan ≡ []
+unfolding planned
+part_left [] h = refl
+part_left (a ∷ []) h = refl
+part_left (a ∷ (b ∷ [])) h = refl
+part_left (a ∷ (b ∷ (c ∷ rest))) h = absurd (omega arith)
 
 -- The station of index i and the others, as the loops over the plan take them.
 module _ (plan : List ℕ) (i : ℕ) where
@@ -82,20 +89,21 @@ module _ (plan : List ℕ) (i : ℕ) where
   unfolding entries
   entries_on h = ap entries (planned_on h)
 
-  -- nothing left
-  planned_end : length plan ≤ at → planned (drop at plan) ≡ []
-  unfolding planned
-  planned_end h = ap planned (drop_of_length-le plan {i = at} h)
+  -- no whole station is left
+  planned_end : length plan / 3 ≤ i → planned (drop at plan) ≡ []
+  planned_end h =
+      let e : length (drop at plan) ≡ length plan - at = length-drop at plan in
+      part_left (drop at plan) (omega arith)
 
-  pub plan_end : (k low : ℕ) → length plan ≤ at → plan_ok k low (planned (drop at plan)) ≡ true
+  pub plan_end : (k low : ℕ) → length plan / 3 ≤ i → plan_ok k low (planned (drop at plan)) ≡ true
   unfolding plan_ok
   plan_end k low h = ap (plan_ok k low) (planned_end h)
 
-  pub reserved_end : length plan ≤ at → total reserved (planned (drop at plan)) ≡ 0
+  pub reserved_end : length plan / 3 ≤ i → total reserved (planned (drop at plan)) ≡ 0
   unfolding total
   reserved_end h = ap (total reserved) (planned_end h)
 
-  entries_end : length plan ≤ at → entries (planned (drop at plan)) ≡ []
+  entries_end : length plan / 3 ≤ i → entries (planned (drop at plan)) ≡ []
   unfolding entries
   entries_end h = ap entries (planned_end h)
 
@@ -111,6 +119,6 @@ module _ (plan : List ℕ) (i : ℕ) where
       (log_step m₀ whole m (eight ca r c 0) (entries rest) start o (subst (λ (x : List ℕ). Log m₀ start whole m o x) (entries_on h) l) k))
 
   -- at the end the entries of the whole plan are written
-  pub put_end : (m₀ whole m : List ℕ) (start : ℕ) → length plan ≤ at → Log m₀ start whole m (start + 8 * i) (entries (planned (drop at plan))) → start ≤ length m₀
+  pub put_end : (m₀ whole m : List ℕ) (start : ℕ) → length plan / 3 ≤ i → Log m₀ start whole m (start + 8 * i) (entries (planned (drop at plan))) → start ≤ length m₀
       → m ≡ over m₀ start whole
   put_end m₀ whole m start h l s = (log_end m₀ whole m start (start + 8 * i) (subst (λ (x : List ℕ). Log m₀ start whole m (start + 8 * i) x) (entries_end h) l) s).1

@@ -1,7 +1,7 @@
 // Opening a table in lent memory: every test first, then the head, the places, all unused, and the stations. Any numbers, any plan, any memory.
 #![tactic(auto)]
 
-ghost use Rattle.std.specs.Prelude.{◌≡◌, ◌+◌, ◌*◌, ◌≤◌, ◌<◌, length};
+ghost use Rattle.std.specs.Prelude.{◌≡◌, ◌+◌, ◌*◌, ◌/◌, ◌≤◌, ◌<◌, length};
 ghost use Rattle.limits.specs.Test.{total};
 ghost use Rattle.octets.specs.Over.{over};
 ghost use Rattle.layout.specs.Layout.{station_size, most_stations};
@@ -13,6 +13,9 @@ use layout::{HEAD_SIZE, MARK, MOST_PLACES, MOST_STATIONS, PLACE_SIZE, SPARE_OFFS
 use limits::outcome::Outcome;
 
 // ---- a plan as it is lent: CA, reservation and ceiling of each station in turn
+
+// The numbers of a station of a plan.
+const STATION_NUMBERS: usize = 3;
 
 // A station of a plan.
 #[derive(Clone, Copy)]
@@ -29,9 +32,9 @@ impl Planned {
         ensures { result ≡ planned_at plan.now (3 * i) }
     {
         Planned {
-            ca: plan[3 * i],
-            reservation: plan[3 * i + 1],
-            ceiling: plan[3 * i + 2],
+            ca: plan[STATION_NUMBERS * i],
+            reservation: plan[STATION_NUMBERS * i + 1],
+            ceiling: plan[STATION_NUMBERS * i + 2],
         }
     }
 
@@ -60,14 +63,13 @@ impl Planned {
     }
 }
 
-// Are the numbers of all n stations valid, CA strictly ascending?
+// Are the numbers of all stations valid, CA strictly ascending?
 #[tactic(auto, using(crate::proofs::Plan::plan_on, crate::proofs::Plan::plan_off, crate::proofs::Plan::plan_end))]
-fn stations_ok(plan: &[u16], k: usize, n: usize) -> bool
-    requires { length plan.now ≡ 3 * n }
+fn stations_ok(plan: &[u16], k: usize) -> bool
     ensures { result ≡ plan_ok k 1 (planned plan.now) }
 {
     let mut low = 1;
-    for i in 0..n {
+    for i in 0..plan.len() / STATION_NUMBERS {
         let station = Planned::at(plan, i);
         if !station.valid(k, low) {
             return false;
@@ -77,25 +79,25 @@ fn stations_ok(plan: &[u16], k: usize, n: usize) -> bool
     true
 }
 
-// The reservations of n stations, added up.
+// The reservations of all stations, added up.
 #[tactic(auto, using(crate::proofs::Plan::reserved_on, crate::proofs::Plan::reserved_end))]
-fn reservations(plan: &[u16], n: usize) -> usize
-    requires { (length plan.now ≡ 3 * n) × (n ≤ most_stations) }
+fn reservations(plan: &[u16]) -> usize
+    requires { length plan.now / 3 ≤ most_stations }
     ensures { result ≡ total reserved (planned plan.now) }
 {
     let mut sum: usize = 0;
-    for i in 0..n {
+    for i in 0..plan.len() / STATION_NUMBERS {
         sum += usize::from(Planned::at(plan, i).reservation);
     }
     sum
 }
 
-// Is the plan of n stations valid under K?
+// Is the plan valid under K?
 #[tactic(auto, using(crate::proofs::Tests::k_zero, crate::proofs::Tests::k_high, crate::proofs::Tests::no_station, crate::proofs::Tests::many_stations, crate::proofs::Tests::plan_bad, crate::proofs::Tests::reserved_test))]
-fn plan_ok(plan: &[u16], k: usize, n: usize) -> bool
-    requires { length plan.now ≡ 3 * n }
+fn plan_ok(plan: &[u16], k: usize) -> bool
     ensures { result ≡ valid_plan k (planned plan.now) }
 {
+    let n = plan.len() / STATION_NUMBERS;
     if k < 1 {
         return false;
     }
@@ -108,10 +110,10 @@ fn plan_ok(plan: &[u16], k: usize, n: usize) -> bool
     if MOST_STATIONS < n {
         return false;
     }
-    if !stations_ok(plan, k, n) {
+    if !stations_ok(plan, k) {
         return false;
     }
-    reservations(plan, n) <= k
+    reservations(plan) <= k
 }
 
 // May a table of capacity K be opened under the plan in a memory of `octets` octets?
@@ -119,14 +121,13 @@ fn plan_ok(plan: &[u16], k: usize, n: usize) -> bool
 pub fn may_open(plan: &[u16], k: usize, octets: usize) -> bool
     ensures { result ≡ opens k plan.now octets }
 {
-    if plan.len() % 3 != 0 {
+    if plan.len() % STATION_NUMBERS != 0 {
         return false;
     }
-    let n = plan.len() / 3;
-    if !plan_ok(plan, k, n) {
+    if !plan_ok(plan, k) {
         return false;
     }
-    PLACE_SIZE * k + STATION_SIZE * n + HEAD_SIZE <= octets
+    PLACE_SIZE * k + STATION_SIZE * (plan.len() / STATION_NUMBERS) + HEAD_SIZE <= octets
 }
 
 // ---- the octets of a fresh table
@@ -141,27 +142,27 @@ fn head_start(k: u16, n: u16) -> [u8; SPARE_OFFSET]
     [m0, m1, m2, m3, k0, k1, n0, n1, 0, 0, 0, 0, 0, 0]
 }
 
-// Writes the n stations of the plan.
-fn put_stations(table: &mut [u8], at: usize, plan: &[u16], n: usize)
-    requires { (length plan.now ≡ 3 * n) × (at + station_size * n ≤ length table.old) }
+// Writes the stations of the plan.
+fn put_stations(table: &mut [u8], at: usize, plan: &[u16])
+    requires { at + station_size * (length plan.now / 3) ≤ length table.old }
     ensures { table.new ≡ over table.old at (entries (planned plan.now)) }
 {
-    for i in 0..n {
+    for i in 0..plan.len() / STATION_NUMBERS {
         let station = Planned::at(plan, i);
         octets::copy_in(&station.octets(), table, at + STATION_SIZE * i);
     }
 }
 
-// Writes the fresh table of a plan of n stations.
-fn put_fresh(table: &mut [u8], k: usize, plan: &[u16], n: usize)
-    requires { (length plan.now ≡ 3 * n) × (k < 65536) × (n < 65536) × (table_octets k n ≤ length table.old) }
+// Writes the fresh table of a plan.
+fn put_fresh(table: &mut [u8], k: usize, plan: &[u16])
+    requires { (k < 65536) × (length plan.now / 3 < 65536) × (table_octets k (length plan.now / 3) ≤ length table.old) }
     ensures { table.new ≡ over table.old 0 (image (fresh k plan.now)) }
 {
     let stations = HEAD_SIZE + PLACE_SIZE * k;
-    let start = head_start(k as u16, n as u16);
+    let start = head_start(k as u16, (plan.len() / STATION_NUMBERS) as u16);
     octets::copy_in(&start, table, 0);
     octets::clear(table, SPARE_OFFSET, stations);
-    put_stations(table, stations, plan, n);
+    put_stations(table, stations, plan);
 }
 
 // ---- the entry
@@ -174,6 +175,6 @@ pub fn open(table: &mut [u8], capacity: u32, plan: &[u16]) -> Outcome
     if !may_open(plan, k, table.len()) {
         return Outcome::InvalidPlan;
     }
-    put_fresh(table, k, plan, plan.len() / 3);
+    put_fresh(table, k, plan);
     Outcome::Done
 }
