@@ -48,9 +48,9 @@ reset_on sel m at n i h =
     let f : at + 48 * i + 48 ≡ at + 48 * (i + 1) = omega arith in
     ap (reset_places sel m (at + 48 * i)) e ∙ ap (λ (x : ℕ). reset_places sel (reset_place sel m (at + 48 * i)) x (n - (i + 1))) f
 
-pub reset_end : (sel : Selection) (m : List ℕ) (at n i : ℕ) → n ≤ i → reset_places sel m at (n - i) ≡ m
+pub reset_end : (sel : Selection) (m : List ℕ) (at n : ℕ) → n ≤ 0 → reset_places sel m at n ≡ m
 unfolding reset_places
-reset_end sel m at n i h = let e : n - i ≡ zero = omega arith in ap (reset_places sel m at) e
+reset_end sel m at n h = let e : n ≡ zero = omega arith in ap (reset_places sel m at) e
 
 -- Some places, and then the places after them.
 pub reset_then : (sel : Selection) (m : List ℕ) (at n k : ℕ) → reset_places sel m at (n + k) ≡ reset_places sel (reset_places sel m at n) (at + 48 * n) k
