@@ -1,5 +1,5 @@
 -- The stations' numbers raised: over the octets of stations this writes those of stations that hold more. Assumes nothing.
-use mathlib.Core.Path.{◌≡◌, refl, sym, ap, ap₂, ◌∙◌, subst}
+use mathlib.Core.Path.{◌≡◌, refl, sym, ap, ◌∙◌, subst}
 use mathlib.Core.List.{List, [], ◌∷◌, ◌++◌, map, append_assoc}
 use mathlib.Core.Bool.{true}
 use Prim.Native.Nat.{ℕ, zero, suc, ◌+◌, ◌*◌, ◌-◌, ◌/◌, ◌%◌, ◌≤◌, ◌<◌}
@@ -134,13 +134,6 @@ raisable_past m m' taken b i at (suc n) e h r =
     (subst (λ (x : ℕ). x + get_or taken i 0 < 65536) (sym (two_same m m' b (at + 6) e (omega arith))) r.0, raisable_past m m' taken b (i + 1) (at + 8) n e (omega arith) r.1)
 
 module _ (m taken : List ℕ) (at n : ℕ) where
-  -- before the first turn
-  pub raise_start : (Raisable m taken 0 at n) → (raised m taken 0 at n ≡ raised m taken 0 (at + 8 * 0) (n - 0)) × Raisable m taken 0 (at + 8 * 0) (n - 0)
-  raise_start r =
-      let e : at ≡ at + 8 * 0 = omega arith in
-      let f : n ≡ n - 0 = omega arith in
-      (ap₂ (λ (x y : ℕ). raised m taken 0 x y) e f, subst (λ (y : ℕ). Raisable m taken 0 (at + 8 * 0) y) f (subst (λ (x : ℕ). Raisable m taken 0 x n) e r))
-
   module _ (i : ℕ) (h : i < n) (room : at + 8 * n ≤ length m) where
     -- the next station's number written
     pub raise_on : raised m taken i (at + 8 * i) (n - i)

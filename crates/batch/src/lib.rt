@@ -19,18 +19,19 @@ use layout::{
 use limits::outcome::Refusal;
 use octets::wide16;
 use registry::Fault;
+use limits::outcome::Outcome;
+use registry::Reply;
 
 // Adds to what each of the n stations from `at` holds what it took in.
+#[tactic(auto, using(crate::proofs::Raised::raise_on, crate::proofs::Raised::raise_fits, crate::proofs::Raised::raisable_on, crate::proofs::Raised::raise_end, octets::proofs::Laws::length_over))]
 fn raise_held(m: &mut [u8], taken: &[u16; MOST_STATIONS], at: usize, n: usize)
     requires { (n ≤ most_stations) × (at + station_size * n ≤ length m.old) × Raisable m.old taken.now 0 at n }
     ensures { m.new ≡ raised m.old taken.now 0 at n }
 {
-    let mut i: usize = 0;
-    while i < n {
+    for i in 0..n {
         let to = at + STATION_SIZE * i + HELD_OFFSET;
         let held = octets::two_at(m, to);
-        octets::put_two(m, to, held + wide16(taken[i]));
-        i += 1;
+        octets::put_two(m, to, held + usize::from(taken[i]));
     }
 }
 

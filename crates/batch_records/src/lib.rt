@@ -11,6 +11,7 @@ pub const RECORD_OCTETS: usize = 24;
 pub const IOA_IN_RECORD: usize = 2;
 
 // Has the record at `at` this address?
+#[tactic(auto, using(crate::proofs::Laws::ca_differs, crate::proofs::Laws::ioa_test))]
 fn has_address(records: &[u8], at: usize, ca: usize, ioa: usize) -> bool
     requires { at + record_octets ≤ length records.now }
     ensures { result ≡ has_address records.now at ca ioa }
@@ -26,12 +27,5 @@ pub fn stands_before(records: &[u8], ca: usize, ioa: usize, n: usize) -> bool
     requires { record_octets * n ≤ length records.now }
     ensures { result ≡ stands_before records.now ca ioa n }
 {
-    let mut left = n;
-    while 0 < left {
-        left -= 1;
-        if has_address(records, RECORD_OCTETS * left, ca, ioa) {
-            return true;
-        }
-    }
-    false
+    (0..n).any(|i| has_address(records, RECORD_OCTETS * i, ca, ioa))
 }

@@ -26,21 +26,24 @@ use Rattle.connection_start.specs.Starting.{common_address_at}
 
 -- ---- the turns of the loop over the stations
 
-module _ (m : List ℕ) (at n : ℕ) (h : 0 < n) where
-  one_more : n ≡ suc (n - 1)
+module _ (m : List ℕ) (at n i : ℕ) (h : i < n) where
+  one_more : n - i ≡ suc (n - (i + 1))
   one_more = omega arith
 
-  pub address_here : (held_at m at ≡ 0 → ⊥) → common_address_at m at n ≡ ca_at m at
+  pub address_here : (held_at m (at + station_size * i) ≡ 0 → ⊥) → common_address_at m (at + station_size * i) (n - i) ≡ ca_at m (at + station_size * i)
   unfolding common_address_at
-  address_here e = ap (common_address_at m at) one_more ∙ simp (ne_eqb _ _ e)
+  address_here e = ap (common_address_at m (at + station_size * i)) one_more ∙ simp (ne_eqb _ _ e)
 
-  pub address_on : held_at m at ≡ 0 → common_address_at m at n ≡ common_address_at m (at + station_size) (n - 1)
+  pub address_on : held_at m (at + station_size * i) ≡ 0
+      → common_address_at m (at + station_size * i) (n - i) ≡ common_address_at m (at + station_size * (i + 1)) (n - (i + 1))
   unfolding common_address_at
-  address_on e = ap (common_address_at m at) one_more ∙ simp (eq-eqb _ _ e)
+  address_on e =
+      let f : at + station_size * i + station_size ≡ at + station_size * (i + 1) = omega arith in
+      ap (common_address_at m (at + station_size * i)) one_more ∙ simp (eq-eqb _ _ e) (ap (λ (x : ℕ). common_address_at m x (n - (i + 1))) f)
 
-pub address_end : (m : List ℕ) (at n : ℕ) → n ≤ 0 → common_address_at m at n ≡ 0
+pub address_end : (m : List ℕ) (at n i : ℕ) → n ≤ i → common_address_at m at (n - i) ≡ 0
 unfolding common_address_at
-address_end m at n h = let e : n ≡ 0 = omega arith in ap (common_address_at m at) e
+address_end m at n i h = let e : n - i ≡ 0 = omega arith in ap (common_address_at m at) e
 
 -- ---- the table's
 

@@ -30,19 +30,17 @@ fn station_common_address(m: &[u8], at: usize, n: usize) -> usize
     requires { at + station_size * n ≤ length m.now }
     ensures { (result ≡ common_address_at m.now at n) × (result < 65536) }
 {
-    let mut station = at;
-    let mut left = n;
-    while 0 < left {
+    for i in 0..n {
+        let station = at + STATION_SIZE * i;
         if layout::held_at(m, station) != 0 {
             return octets::two_at(m, station);
         }
-        station += STATION_SIZE;
-        left -= 1;
     }
     0
 }
 
 // Writes the end of initialisation at the front of `out`: type 70, cause 4, IOA 0, octet 0.
+#[tactic(auto, using(report::proofs::Single::length_end), unfolding(report::specs::Single::end_of_initialization_asdu, asdu::specs::Header::asdu_octets, asdu::specs::Header::object_octets, asdu::specs::Joined::joined))]
 fn end_of_initialization_asdu(out: &mut [u8], ca: usize) -> usize
     requires { (ca < 65536) × (length (asdu_octets (end_of_initialization_asdu ca)) ≤ length out.old) }
     ensures { Puts (asdu_octets (end_of_initialization_asdu ca)) out.old result out.new }

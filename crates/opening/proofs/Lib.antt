@@ -1,3 +1,4 @@
 pub mod Plan
 pub mod Fresh
 pub mod Cases
+pub mod Tests

@@ -20,13 +20,17 @@ use Rattle.table.proofs.Cut.{six, head_over}
 
 -- ---- the turns of the loop over the stations
 
-pub none_held_on : (m : List ℕ) (at n : ℕ) → 0 < n → none_held m at n ≡ none_held (over m (at + 6) (pair 0)) (at + 8) (n - 1)
+pub none_held_on : (m : List ℕ) (at n i : ℕ) → i < n
+    → none_held m (at + 8 * i) (n - i) ≡ none_held (over m (at + 8 * i + 6) (pair 0)) (at + 8 * (i + 1)) (n - (i + 1))
 unfolding none_held
-none_held_on m at n h = let e : n ≡ suc (n - 1) = omega arith in ap (none_held m at) e
+none_held_on m at n i h =
+    let e : n - i ≡ suc (n - (i + 1)) = omega arith in
+    let f : at + 8 * i + 8 ≡ at + 8 * (i + 1) = omega arith in
+    ap (none_held m (at + 8 * i)) e ∙ ap (λ (x : ℕ). none_held (over m (at + 8 * i + 6) (pair 0)) x (n - (i + 1))) f
 
-pub none_held_end : (m : List ℕ) (at n : ℕ) → n ≤ 0 → none_held m at n ≡ m
+pub none_held_end : (m : List ℕ) (at n i : ℕ) → n ≤ i → none_held m at (n - i) ≡ m
 unfolding none_held
-none_held_end m at n h = let e : n ≡ zero = omega arith in ap (none_held m at) e
+none_held_end m at n i h = let e : n - i ≡ zero = omega arith in ap (none_held m at) e
 
 -- ---- the pieces of an emptied table's image
 

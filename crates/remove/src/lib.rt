@@ -8,6 +8,7 @@ ghost use Rattle.remove.specs.Remove.{closed_up, taken_out, none_held, all_taken
 use layout::{HEAD_SIZE, HELD_OFFSET, PLACE_SIZE, POINTS_OFFSET, STATION_SIZE};
 
 // The places after the one at `at`, up to `to`, move down by one place, and the last becomes zero.
+#[tactic(auto, unfolding(crate::specs::Remove::closed_up))]
 fn close_up(m: &mut [u8], at: usize, to: usize)
     requires { (at + place_size ≤ to) × (to ≤ length m.old) }
     ensures { m.new ≡ closed_up m.old at to }
@@ -17,6 +18,7 @@ fn close_up(m: &mut [u8], at: usize, to: usize)
 }
 
 // Takes the place at `at` out: it is one of the h places of the station of index i.
+#[tactic(auto, unfolding(crate::specs::Remove::taken_out))]
 pub fn take_out(m: &mut [u8], i: usize, h: usize, at: usize)
     requires { Removable m.old i h at }
     ensures { m.new ≡ taken_out m.old i h at }
@@ -29,20 +31,18 @@ pub fn take_out(m: &mut [u8], i: usize, h: usize, at: usize)
 }
 
 // The held of each of the n stations from `at` becomes 0.
+#[tactic(auto, using(crate::proofs::Emptied::none_held_on, crate::proofs::Emptied::none_held_end, octets::proofs::Laws::length_over))]
 fn none_held(m: &mut [u8], at: usize, n: usize)
     requires { at + station_size * n ≤ length m.old }
     ensures { m.new ≡ none_held m.old at n }
 {
-    let mut station = at;
-    let mut left = n;
-    while 0 < left {
-        octets::put_two(m, station + HELD_OFFSET, 0);
-        station += STATION_SIZE;
-        left -= 1;
+    for i in 0..n {
+        octets::put_two(m, at + STATION_SIZE * i + HELD_OFFSET, 0);
     }
 }
 
 // Takes all points out and gives back how many there were.
+#[tactic(auto, unfolding(crate::specs::Remove::all_taken_out))]
 pub fn take_all_out(m: &mut [u8]) -> usize
     requires { (size_in m.old ≤ length m.old) × (points_in m.old ≤ capacity_in m.old) }
     ensures { (result ≡ points_in m.old) × (m.new ≡ all_taken_out m.old) }

@@ -40,9 +40,13 @@ module _ (sel : Selection) (m : List ℕ) (at : ℕ) where
       go true = length_over m (replicate 4 0) (at + 10) (omega arith)
       go false = refl
 
-pub reset_on : (sel : Selection) (m : List ℕ) (at n : ℕ) → 0 < n → reset_places sel m at n ≡ reset_places sel (reset_place sel m at) (at + 48) (n - 1)
+pub reset_on : (sel : Selection) (m : List ℕ) (at n i : ℕ) → i < n
+    → reset_places sel m (at + 48 * i) (n - i) ≡ reset_places sel (reset_place sel m (at + 48 * i)) (at + 48 * (i + 1)) (n - (i + 1))
 unfolding reset_places
-reset_on sel m at n h = let e : n ≡ suc (n - 1) = omega arith in ap (reset_places sel m at) e
+reset_on sel m at n i h =
+    let e : n - i ≡ suc (n - (i + 1)) = omega arith in
+    let f : at + 48 * i + 48 ≡ at + 48 * (i + 1) = omega arith in
+    ap (reset_places sel m (at + 48 * i)) e ∙ ap (λ (x : ℕ). reset_places sel (reset_place sel m (at + 48 * i)) x (n - (i + 1))) f
 
 pub reset_end : (sel : Selection) (m : List ℕ) (at n : ℕ) → n ≤ 0 → reset_places sel m at n ≡ m
 unfolding reset_places

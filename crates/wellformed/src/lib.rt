@@ -18,6 +18,7 @@ use model::PLACE_LIMITS;
 // ---- the head
 
 // The mark 4B 48 56 01.
+#[tactic(auto, unfolding(table::specs::Memory::mark_at))]
 fn mark_ok(m: &[u8]) -> bool
     requires { head_size ≤ length m.now }
     ensures { result ≡ mark_at m.now }
@@ -26,6 +27,7 @@ fn mark_ok(m: &[u8]) -> bool
 }
 
 // The settings. Today there are none, and their octets are zero.
+#[tactic(auto, unfolding(table::specs::Memory::settings_at))]
 fn settings_ok(m: &[u8]) -> bool
     requires { head_size ≤ length m.now }
     ensures { result ≡ settings_at m.now }
@@ -34,6 +36,7 @@ fn settings_ok(m: &[u8]) -> bool
 }
 
 // The mark, K from 1 to 4,096, 1 to 64 stations, memory enough, the settings, spare octets zero.
+#[tactic(auto, using(crate::proofs::Heads::short, crate::proofs::Heads::no_mark, crate::proofs::Heads::no_capacity, crate::proofs::Heads::much_capacity, crate::proofs::Heads::no_station, crate::proofs::Heads::many_stations, crate::proofs::Heads::no_room, crate::proofs::Heads::no_settings, crate::proofs::Heads::spare_test))]
 fn head_ok(m: &[u8]) -> bool
     ensures { result ≡ head_at m.now }
 {
@@ -72,6 +75,7 @@ fn head_ok(m: &[u8]) -> bool
 const HIGHEST_CA: usize = 65534;
 
 // CA from `low` to 65,534, r ≤ c ≤ K, held ≤ c.
+#[tactic(auto, using(crate::proofs::Tests::ca_low, crate::proofs::Tests::ca_high, crate::proofs::Tests::ceiling_low, crate::proofs::Tests::ceiling_high, crate::proofs::Tests::held_test))]
 pub fn numbers_ok(k: usize, low: usize, ca: usize, r: usize, c: usize, h: usize) -> bool
     ensures { result ≡ numbers_ok k low ca r c h }
 {
@@ -103,20 +107,18 @@ fn station_ok(m: &[u8], at: usize, k: usize, low: usize) -> bool
 }
 
 // The same of n stations, CA strictly ascending.
+#[tactic(auto, using(crate::proofs::Turns::plan_on, crate::proofs::Turns::plan_off, crate::proofs::Turns::plan_end))]
 fn plan_ok(m: &[u8], k: usize, at: usize, n: usize) -> bool
     requires { at + station_size * n ≤ length m.now }
     ensures { result ≡ plan_at m.now k 1 at n }
 {
-    let mut station = at;
     let mut low = 1;
-    let mut left = n;
-    while 0 < left {
+    for i in 0..n {
+        let station = at + STATION_SIZE * i;
         if !station_ok(m, station, k, low) {
             return false;
         }
         low = layout::ca_at(m, station) + 1;
-        station += STATION_SIZE;
-        left -= 1;
     }
     true
 }
@@ -129,6 +131,22 @@ pub struct Sums {
     pub reserved: usize,
     pub held: usize,
     pub unmet: usize,
+}
+
+impl Sums {
+    // Reservations and points at most K, and free ≥ unmet.
+    #[tactic(auto, using(crate::proofs::Tests::reserved_high, crate::proofs::Tests::held_high, crate::proofs::Tests::unmet_test))]
+    fn within(self, k: usize) -> bool
+        ensures { result ≡ shares_ok k self.reserved self.held self.unmet }
+    {
+        if k < self.reserved {
+            return false;
+        }
+        if k < self.held {
+            return false;
+        }
+        self.unmet <= k - self.held
+    }
 }
 
 // The share of the station whose eight octets start at `at`.
@@ -147,44 +165,27 @@ pub fn share_at(m: &[u8], at: usize) -> Share
 }
 
 // Reservations, held and unmet room of the n stations from `at`, each added up.
+#[tactic(auto, using(crate::proofs::Turns::sum_none, crate::proofs::Turns::sum_more, limits::proofs::Shares::unmet_is))]
 pub fn add_up(m: &[u8], at: usize, n: usize) -> Sums
     requires { (at + station_size * n ≤ length m.now) × (n ≤ most_stations) }
     ensures { AddedUp m.now at n result }
 {
-    let mut station = at;
-    let mut left = n;
-    let mut reserved: usize = 0;
-    let mut held: usize = 0;
-    let mut unmet: usize = 0;
-    while 0 < left {
-        let s = share_at(m, station);
-        reserved += s.reservation;
-        held += s.held;
-        unmet += s.unmet();
-        station += STATION_SIZE;
-        left -= 1;
+    let mut sums = Sums {
+        reserved: 0,
+        held: 0,
+        unmet: 0,
+    };
+    for i in 0..n {
+        let s = share_at(m, at + STATION_SIZE * i);
+        sums.reserved += s.reservation;
+        sums.held += s.held;
+        sums.unmet += s.unmet();
     }
-    Sums {
-        reserved: reserved,
-        held: held,
-        unmet: unmet,
-    }
-}
-
-// Reservations and points at most K, and free ≥ unmet.
-fn shares_ok(k: usize, r: usize, h: usize, u: usize) -> bool
-    ensures { result ≡ shares_ok k r h u }
-{
-    if k < r {
-        return false;
-    }
-    if k < h {
-        return false;
-    }
-    u <= k - h
+    sums
 }
 
 // The stations' numbers, and the head's number of points.
+#[tactic(auto, using(crate::proofs::Tests::plan_bad, crate::proofs::Tests::points_differ, crate::proofs::Tests::shares_test))]
 fn plan_and_shares(m: &[u8], k: usize, at: usize, n: usize, points: usize) -> bool
     requires { (at + station_size * n ≤ length m.now) × (n ≤ most_stations) }
     ensures { result ≡ shares_at m.now k at n points }
@@ -196,33 +197,32 @@ fn plan_and_shares(m: &[u8], k: usize, at: usize, n: usize, points: usize) -> bo
     if points != s.held {
         return false;
     }
-    shares_ok(k, s.reserved, points, s.unmet)
+    s.within(k)
 }
 
 // ---- the places
 
 // Each station's places, station after station. `limits` are those of `place_limits`.
+#[tactic(auto, using(crate::proofs::Turns::bodies_on, crate::proofs::Turns::bodies_off, crate::proofs::Turns::bodies_end, crate::proofs::Turns::sum_on))]
 fn bodies_ok(m: &[u8], at: usize, n: usize, limits: &[usize; PLACE_LIMITS]) -> bool
     requires { (at + station_size * n ≤ length m.now) × (head_size + place_size * sum_at held_at m.now at n ≤ length m.now) × (limits.now ≡ place_limits) }
     ensures { result ≡ bodies_at m.now head_size at n }
 {
     let mut place = HEAD_SIZE;
-    let mut station = at;
-    let mut left = n;
-    while 0 < left {
+    for i in 0..n {
+        let station = at + STATION_SIZE * i;
         let ca = layout::ca_at(m, station);
         let h = layout::held_at(m, station);
         if !model::places_ok(m, place, ca, h, limits) {
             return false;
         }
         place += PLACE_SIZE * h;
-        station += STATION_SIZE;
-        left -= 1;
     }
     true
 }
 
 // The places of n stations and the unused places after them.
+#[tactic(auto, using(crate::proofs::Whole::bodies_bad, crate::proofs::Whole::unused_test))]
 fn places_and_unused(m: &[u8], k: usize, n: usize, points: usize) -> bool
     requires { (after_places k + station_size * n ≤ length m.now) × (points ≤ k) × (points ≡ sum_at held_at m.now (after_places k) n) }
     ensures { result ≡ places_at m.now k n points }
@@ -239,6 +239,7 @@ fn places_and_unused(m: &[u8], k: usize, n: usize, points: usize) -> bool
 }
 
 // Does the memory hold a well-formed table?
+#[tactic(auto, using(crate::proofs::Heads::head_long, crate::proofs::Heads::head_room, crate::proofs::Heads::head_few, crate::proofs::Whole::points_are, crate::proofs::Whole::points_few, crate::proofs::Whole::head_bad, crate::proofs::Whole::shares_bad, crate::proofs::Whole::places_test))]
 pub fn well_formed(m: &[u8]) -> bool
     ensures { result ≡ well_formed m.now }
 {

@@ -1,7 +1,5 @@
 -- Refused, all is as it was; else the fresh table lies over the front of the memory.
 use mathlib.Core.Path.{sym, ◌∙◌}
-use Prim.Native.Nat.{◌/◌}
-use lib.ListN.{length}
 use Rattle.table.specs.Table.{image}
 use Rattle.registry.specs.Opening.{fresh}
 use Rattle.opening.proofs.Plan.{length_planned}
@@ -19,12 +17,11 @@ put_fresh-requires c =
     let a = c.args in
     let on = sym c.may_open.ensures ∙ c.if-not-may_open.false in
     let o = opens_is _ a.plan.now _ on in
-    let w = o.whole in
-    let e = length_planned a.plan.now (length a.plan.now / 3) (omega arith) in
+    let e = length_planned a.plan.now in
     let h = o.k_high in
     let s = o.s_high in
     let r = o.room in
-    (omega arith, omega arith, omega arith, omega arith)
+    (omega arith, omega arith, omega arith)
 
 pub returns : goal.returns
 returns c =

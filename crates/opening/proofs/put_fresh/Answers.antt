@@ -1,7 +1,7 @@
 -- The three writes, one after another, are the image.
 use mathlib.Core.Path.{◌∙◌}
-use Prim.Native.Nat.{◌+◌, ◌*◌, ◌-◌}
-use lib.ListN.{replicate}
+use Prim.Native.Nat.{◌+◌, ◌*◌, ◌-◌, ◌/◌}
+use lib.ListN.{length, replicate}
 use Rattle.octets.specs.Over.{over}
 use Rattle.table.specs.Table.{entries}
 use Rattle.registry.specs.Opening.{planned}
@@ -20,4 +20,4 @@ returns c =
     let second = c.clear.ensures ∙ (λ j. over (first j) 14 (replicate (b - 14) 0)) in
     c.put_stations.ensures
     ∙ (λ j. over (second j) b (entries (planned plan)))
-    ∙ written a.table.now a.k a.n plan (length_planned plan a.n (omega arith)) (omega arith)
+    ∙ written a.table.now a.k (length plan / 3) plan (length_planned plan) (omega arith)

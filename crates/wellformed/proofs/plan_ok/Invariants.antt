@@ -1,11 +1,8 @@
+-- What is left of the plan, above the running lower bound, is what is still to be tested.
 use Rattle.table.specs.Memory.{plan_at}
-use lib.ListN.{length}
-use Prim.Native.Nat.{◌+◌, ◌*◌, ◌≤◌}
+use Prim.Native.Nat.{◌+◌, ◌*◌, ◌-◌}
 use mathlib.Core.Path.{◌≡◌}
 use Rattle.wellformed.proofs.plan_ok.Given as goal
 
-abbrev pub invariant-loop-left : goal.invariant-loop-left
-invariant-loop-left l = (plan_at l.m l.k 1 l.at l.n ≡ plan_at l.m l.k l.low l.station l.left) × (l.station + 8 * l.left ≤ length l.m)
-
-abbrev pub decreases-loop-left : goal.decreases-loop-left
-decreases-loop-left l = l.left
+abbrev pub invariant-loop-i : goal.invariant-loop-i
+invariant-loop-i l = plan_at l.m l.k 1 l.at l.n ≡ plan_at l.m l.k l.low (l.at + 8 * l.i) (l.n - l.i)
