@@ -23,7 +23,7 @@ returns-in_default c =
     let out = a.out.now in
     let w = c.requires.0.0 in
     let o : Octets m = λ j. omega (arith, c.slice_known-1.given j) in
-    let e = sym c.can_apply_update-target.ensures ∙ c.in_default.is in
+    let e = sym c.can_apply_update.ensures ∙ c.in_default.is in
     let t : told_one m us a.at ≡ [] = skipped_told m us a.at o w e in
     let l : length (told_one m us a.at) ≡ 0 = ap length t in
     record { memory = skipped_left m us a.at o w e; output = (omega arith, over_none out a.o ∙ ap (over out a.o) (sym t)) }
@@ -33,7 +33,7 @@ store-requires c =
     let a = c.args in
     let m = a.m.now in
     let o : Octets m = λ j. omega (arith, c.slice_known-1.given j) in
-    let i = place_inside m a.updates.now a.at o c.requires.0.0 c.in-Place.place (sym c.can_apply_update-target.ensures ∙ c.in-Place.is) in
+    let i = place_inside m a.updates.now a.at o c.requires.0.0 c.in-Some.place (sym c.can_apply_update.ensures ∙ c.in-Some.is) in
     (omega arith, omega arith)
 
 pub put_single-requires : goal.put_single-requires
@@ -42,13 +42,13 @@ put_single-requires c =
     let m = a.m.now in
     let us = a.updates.now in
     let o : Octets m = λ j. omega (arith, c.slice_known-1.given j) in
-    let e = sym c.can_apply_update-target.ensures ∙ c.in-Place.is in
-    let i = place_inside m us a.at o c.requires.0.0 c.in-Place.place e in
+    let e = sym c.can_apply_update.ensures ∙ c.in-Some.is in
+    let i = place_inside m us a.at o c.requires.0.0 c.in-Some.place e in
     let new = c.store.new.m in
     let s = c.store.ensures in
     let ca : c.two_at-ca.result ≡ two us a.at = c.two_at-ca.ensures.0 in
-    let told : asdu_octets (single spontaneous c.two_at-ca.result (point_at new c.in-Place.place)) ≡ told_one m us a.at =
-    (λ j. asdu_octets (single spontaneous (ca j) (point_at (s j) c.in-Place.place))) ∙ place_told m us a.at o c.requires.0.0 c.in-Place.place e c.requires.0.1 in
+    let told : asdu_octets (single spontaneous c.two_at-ca.result (point_at new c.in-Some.place)) ≡ told_one m us a.at =
+    (λ j. asdu_octets (single spontaneous (ca j) (point_at (s j) c.in-Some.place))) ∙ place_told m us a.at o c.requires.0.0 c.in-Some.place e c.requires.0.1 in
     let l = ap length told in
     let r : a.o + length (told_one m us a.at) ≤ length a.out.now = c.requires.1 in
     (omega arith, omega arith, omega arith)
@@ -61,14 +61,14 @@ returns c =
     let w = c.requires.0.0 in
     let h : a.at + update_octets ≤ length us = c.requires.0.1 in
     let o : Octets m = λ j. omega (arith, c.slice_known-1.given j) in
-    let e = sym c.can_apply_update-target.ensures ∙ c.in-Place.is in
+    let e = sym c.can_apply_update.ensures ∙ c.in-Some.is in
     let p = c.put_single in
     let new = c.store.new.m in
     let s = c.store.ensures in
     let ca : c.two_at-ca.result ≡ two us a.at = c.two_at-ca.ensures.0 in
-    let told : asdu_octets (single spontaneous c.two_at-ca.result (point_at new c.in-Place.place)) ≡ told_one m us a.at =
-    (λ j. asdu_octets (single spontaneous (ca j) (point_at (s j) c.in-Place.place))) ∙ place_told m us a.at o w c.in-Place.place e h in
+    let told : asdu_octets (single spontaneous c.two_at-ca.result (point_at new c.in-Some.place)) ≡ told_one m us a.at =
+    (λ j. asdu_octets (single spontaneous (ca j) (point_at (s j) c.in-Some.place))) ∙ place_told m us a.at o w c.in-Some.place e h in
     record {
-      memory = s ∙ place_left m us a.at o w c.in-Place.place e h;
+      memory = s ∙ place_left m us a.at o w c.in-Some.place e h;
       output = (p.ensures.0 ∙ ap (λ (x : List ℕ). a.o + length x) told, p.ensures.1 ∙ ap (over a.out.now a.o) told);
     }
