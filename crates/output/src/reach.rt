@@ -28,6 +28,7 @@ fn seat_reach(seat: Option<Seat>) -> Reach
 }
 
 // The places that a common address speaks of.
+#[tactic(auto, unfolding(crate::specs::Reach::reach_of))]
 pub fn reach_of(m: &[u8], ca: u16) -> Reach
     requires { (stations_in m.now ≤ most_stations) × (size_in m.now ≤ length m.now) }
     ensures { result ≡ reach_of m.now ca }
