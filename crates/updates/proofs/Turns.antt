@@ -18,7 +18,7 @@ use Rattle.model.specs.Place.{point_at}
 use Rattle.table.specs.Table.{Table, image}
 use Rattle.table.specs.Memory.{table_of, well_formed, parse}
 use Rattle.table.proofs.Parse.{Good, is_good, passed, printed, holds, parsed, parse_complete}
-use Rattle.octets.proofs.Log.{Log, log_start, log_step, log_room, log_end}
+use Rattle.octets.proofs.Log.{Log, log_step, log_room, log_end}
 use Rattle.registry.specs.Effect.{holding}
 use Rattle.asdu.specs.Cause.{spontaneous}
 use Rattle.asdu.specs.Header.{asdu_octets, wire}
@@ -171,16 +171,6 @@ pub record Going (m₀ us : List ℕ) (n : ℕ) (s₀ m s : List ℕ) (o i : ℕ
   pub same : length m ≡ length m₀
   pub leaves : left_by_all m₀ us 0 n ≡ left_by_all m us (update_octets * i) (n - i)
   pub log : Log s₀ 0 (told_by_all m₀ us 0 n) s o (told_by_all m us (update_octets * i) (n - i))
-
-pub going_start : (m us : List ℕ) (n : ℕ) (s : List ℕ) → Octets m → well_formed m ≡ true → Going m us n s m s 0 0
-going_start m us n s o w =
-    record {
-      octets = o;
-      formed = w;
-      same = refl;
-      leaves = ap (λ (x : List Update). holding m (table_of m) (table_after (table_of m) x)) (updates_start us n);
-      log = subst (λ (x : List Update). Log s 0 (told_by_all m us 0 n) s 0 (wire (told_by (table_of m) x))) (updates_start us n) (log_start s 0 (told_by_all m us 0 n) (omega arith));
-    }
 
 module _ (m₀ us : List ℕ) (n : ℕ) (s₀ m s : List ℕ) (o i : ℕ) (g : Going m₀ us n s₀ m s o i) where
   -- The next ASDU has room.

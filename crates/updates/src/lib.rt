@@ -70,6 +70,7 @@ pub fn told_octets(m: &[u8], updates: &[u8], n: usize) -> usize
 // ---- storing and telling
 
 // Stores the element of a value that lies in `updates` at `from`: past it a place is zero already.
+#[tactic(auto, unfolding(crate::specs::Updates::stored))]
 fn store(m: &mut [u8], place: usize, updates: &[u8], from: usize, kind: u8)
     requires { (place + (value_offset + value_size) ≤ length m.old) × (from + value_size ≤ length updates.now) }
     ensures { m.new ≡ stored m.old place kind updates.now from }

@@ -1,13 +1,7 @@
 use native.Mathlib.Omega.{arith}
 use Rattle.octets.specs.Number.{Octets}
-use Rattle.updates.proofs.Turns.{going_start, going_room, going_on, going_end}
+use Rattle.updates.proofs.Turns.{going_room, going_on, going_end}
 use Rattle.updates.proofs.apply_model_updates.Goals as goal
-
-pub loop-i-init : goal.loop-i-init
-loop-i-init c =
-    let a = c.args in
-    let o : Octets a.m.now = λ j. omega (arith, c.type_inv.m j) in
-    going_start a.m.now a.updates.now a.n a.out.now o c.requires.0
 
 pub apply_one-o-requires : goal.apply_one-o-requires
 apply_one-o-requires c =
