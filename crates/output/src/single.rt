@@ -17,11 +17,7 @@ fn put_front(out: &mut [u8], cause: u8, ca: u16, m: &[u8], at: usize) -> usize
 {
     let kind = m[at];
     let e = limits::size::point_octets(kind);
-    let l = Label {
-        kind: kind,
-        cause: cause,
-        ca: ca,
-    };
+    let l = Label { kind, cause, ca };
     let h = write::data_header(l, 1);
     let o = asdu::header::put_header(out, h);
     write::put_object(out, o, m, at, e);
