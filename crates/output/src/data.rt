@@ -12,6 +12,7 @@ use layout::MOST_PLACES;
 use report::{Reach, Selection, Terms};
 
 // Sizes a report: links the selected places of a reach, in the order of an answer, into chains in memory lent by the caller, and gives its octets.
+// The chains stay slices of any length, since the clauses of `size_report` may ask no more of its callers (docs/DECISIONS.md, 54).
 pub fn size_report(
     m: &[u8],
     reach: Reach,

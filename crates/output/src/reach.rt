@@ -6,7 +6,6 @@ ghost use Rattle.output.specs.Reach.{seat_reach, reach_of};
 use asdu::header::GLOBAL_COMMON_ADDRESS;
 use layout::HEAD_SIZE;
 use lookup::Seat;
-use octets::wide16;
 use report::Reach;
 
 // A station's own places; none where the plan has no such station.
@@ -28,6 +27,7 @@ fn seat_reach(seat: Option<Seat>) -> Reach
 }
 
 // The places that a common address speaks of.
+#[tactic(auto, unfolding(crate::specs::Reach::reach_of))]
 pub fn reach_of(m: &[u8], ca: u16) -> Reach
     requires { (stations_in m.now ≤ most_stations) × (size_in m.now ≤ length m.now) }
     ensures { result ≡ reach_of m.now ca }
@@ -39,5 +39,5 @@ pub fn reach_of(m: &[u8], ca: u16) -> Reach
             every: true,
         };
     }
-    seat_reach(lookup::seat_at(m, wide16(ca)))
+    seat_reach(lookup::seat_at(m, usize::from(ca)))
 }

@@ -17,11 +17,7 @@ fn put_front(out: &mut [u8], cause: u8, ca: u16, m: &[u8], at: usize) -> usize
 {
     let kind = m[at];
     let e = limits::size::point_octets(kind);
-    let l = Label {
-        kind: kind,
-        cause: cause,
-        ca: ca,
-    };
+    let l = Label { kind, cause, ca };
     let h = write::data_header(l, 1);
     let o = asdu::header::put_header(out, h);
     write::put_object(out, o, m, at, e);
@@ -29,6 +25,7 @@ fn put_front(out: &mut [u8], cause: u8, ca: u16, m: &[u8], at: usize) -> usize
 }
 
 // Lends what remains of `out` after `o` to the writer of one point's ASDU, and gives the place after its last octet. Cause 3 tells a change, cause 5 answers a read.
+#[tactic(auto, using(octets::proofs::Laws::lent_over))]
 pub fn put_single(out: &mut [u8], o: usize, cause: u8, ca: u16, m: &[u8], at: usize) -> usize
     requires { (cause < 64) × (at + place_size ≤ length m.now) × (o + length (asdu_octets (single cause ca (point_at m.now at))) ≤ length out.old) }
     ensures { PutsAt o (asdu_octets (single cause ca (point_at m.now at))) out.old result out.new }

@@ -97,17 +97,3 @@ module _ (m : List ℕ) (first h : ℕ) (asdu : List ℕ) (at n i : ℕ) where
   pub requested_end : (ca : ℕ) → n ≤ i → wire (requested_at m first h ca asdu (at + 3 * i) (n - i)) ≡ []
   unfolding requested_at
   requested_end ca e = let z : n - i ≡ 0 = omega arith in ap (λ (x : ℕ). wire (requested_at m first h ca asdu (at + 3 * i) x)) z ∙ wire_none
-
--- before the first
-pub asked_start : (m : List ℕ) (first h : ℕ) (asdu : List ℕ) (at n : ℕ) → asked_at m first h asdu at n ≡ together (Some 0) (asked_at m first h asdu (at + 3 * 0) (n - 0))
-asked_start m first h asdu at n =
-    let z : at ≡ at + 3 * 0 = omega arith in
-    let y : n ≡ n - 0 = omega arith in
-    sym (together_none (asked_at m first h asdu at n)) ∙ (λ j. together (Some 0) (asked_at m first h asdu (z j) (y j)))
-
-pub requested_start : (m : List ℕ) (first h ca : ℕ) (asdu : List ℕ) (at n : ℕ)
-    → wire (requested_at m first h ca asdu at n) ≡ wire (requested_at m first h ca asdu (at + 3 * 0) (n - 0))
-requested_start m first h ca asdu at n =
-    let z : at ≡ at + 3 * 0 = omega arith in
-    let y : n ≡ n - 0 = omega arith in
-    λ j. wire (requested_at m first h ca asdu (z j) (y j))

@@ -1,5 +1,6 @@
 -- Which point an update means: what the code finds in a well-formed memory is the point that the definition names. Assumes nothing.
 use Rattle.std.specs.Prelude.{Option, Some, None, Result, Ok, Err}
+use Rattle.std.specs.Result.{result_ok}
 use mathlib.Core.Path.{◌≡◌, refl, sym, ap, ◌∙◌, subst}
 use mathlib.Core.List.{List, [], ◌∷◌}
 use mathlib.Core.Bool.{Bool, true, false}
@@ -25,7 +26,6 @@ use Rattle.lookup.specs.Find.{find_at}
 use Rattle.lookup.proofs.Laws.{Seated, Seen, seat_law, absent_law}
 use Rattle.lookup.proofs.Halving.{HeldAt, held_law, missing_law}
 use Rattle.answers.specs.Process.{Update, updated, update_of, revalued}
-use Rattle.updates.specs.declared.Target.TheVariants.{Place, Skipped}
 use Rattle.updates.specs.Updates.{target_on, target_in, target_at}
 
 -- ---- bounds of what is found in a well-formed memory
@@ -34,21 +34,21 @@ module _ (m : List ℕ) (w : well_formed m ≡ true) where
   pub table_bounds : (two m 6 ≤ 64) × (64 + 48 * two m 4 + 8 * two m 6 ≤ length m)
   table_bounds = let p = passed m w in (p.top.s_high, p.top.room)
 
-  module _ (o : Octets m) (ca i first h : ℕ) (e : seat_at m ca ≡ here i first h) where
-    pub seat_bounds : first + 48 * h ≤ length m
+  module _ (o : Octets m) (ca : ℕ) (s : Seat) (e : seat_at m ca ≡ Some s) where
+    pub seat_bounds : s.first + 48 * s.held ≤ length m
     seat_bounds =
         let p = passed m w in
         let few : two m 8 ≤ two m 4 = p.few in
         let room : 64 + 48 * two m 4 + 8 * two m 6 ≤ length m = p.top.room in
-        let places : first + 48 * h ≤ 64 + 48 * two m 8 = (seat_law m ca i first h o w e).places in
+        let places : s.first + 48 * s.held ≤ 64 + 48 * two m 8 = (seat_law m ca s.index s.first s.held o w e).places in
         omega arith
 
-    pub spot_law : (ioa at : ℕ) → find_at m first h ioa ≡ Ok at → HeldAt m first h ioa at (points_at m first h)
+    spot_law : (ioa at : ℕ) → find_at m s.first s.held ioa ≡ Ok at → HeldAt m s.first s.held ioa at (points_at m s.first s.held)
     spot_law ioa at f =
-        let seen : Seen m ca i first h = seat_law m ca i first h o w e in
-        held_law m first h ioa at (ap (rising 0) seen.points ∙ seen.rises) f
+        let seen : Seen m ca s.index s.first s.held = seat_law m ca s.index s.first s.held o w e in
+        held_law m s.first s.held ioa at (ap (rising 0) seen.points ∙ seen.rises) f
 
-    pub held_bounds : (ioa at : ℕ) → find_at m first h ioa ≡ Ok at → at + 48 ≤ length m
+    pub held_bounds : (ioa at : ℕ) → find_at m s.first s.held ioa ≡ Ok at → at + 48 ≤ length m
     held_bounds ioa at f = let b = seat_bounds in let k = (spot_law ioa at f).inside in omega arith
 
 -- ---- the point that is meant
@@ -82,7 +82,7 @@ module _ (m : List ℕ) (u : Update) (o : Octets m) (w : well_formed m ≡ true)
     found_update is =
         let seen : Seen m u.ca i first h = seat_law m u.ca i first h o w e in
         let q : point_in u.ioa seen.seat.s.points ≡ some (point_at m a) =
-        ap (point_in u.ioa) (sym seen.points) ∙ (spot_law m w o u.ca i first h e u.ioa a f).is_point in
+        ap (point_in u.ioa) (sym seen.points) ∙ (spot_law m w o u.ca (record { index = i; first = first; held = h }) e u.ioa a f).is_point in
         ap (λ (x : _). updated u (point_in u.ioa (points_of x))) is ∙ ap (updated u) q
 
     place_found : eqb (get_or m a 0) u.kind ≡ true → Targeted m u a
@@ -90,7 +90,7 @@ module _ (m : List ℕ) (u : Update) (o : Octets m) (w : well_formed m ≡ true)
     place_found k =
         let seen : Seen m u.ca i first h = seat_law m u.ca i first h o w e in
         let d : Seated (table_of m).stations u.ca 0 64 i first h = seen.seat in
-        let s : HeldAt m first h u.ioa a (points_at m first h) = spot_law m w o u.ca i first h e u.ioa a f in
+        let s : HeldAt m first h u.ioa a (points_at m first h) = spot_law m w o u.ca (record { index = i; first = first; held = h }) e u.ioa a f in
         let y : first ≡ 64 + 48 * total held d.found.before = d.place in
         let x : a ≡ first + 48 * seek_in u.ioa d.s.points = s.place ∙ ap (λ (ps : List Point). first + 48 * seek_in u.ioa ps) seen.points in
         record {
@@ -100,7 +100,7 @@ module _ (m : List ℕ) (u : Update) (o : Octets m) (w : well_formed m ≡ true)
           is_point = ap (point_in u.ioa) (sym seen.points) ∙ s.is_point;
           is_kind = eqb-true _ _ k;
           place = omega arith;
-          inside = held_bounds m w o u.ca i first h e u.ioa a f;
+          inside = held_bounds m w o u.ca (record { index = i; first = first; held = h }) e u.ioa a f;
           update = found_update d.is_station ∙ simp k;
         }
 
@@ -124,57 +124,63 @@ module _ (m : List ℕ) (u : Update) (o : Octets m) (w : well_formed m ≡ true)
   no_station e = ap (λ (x : _). updated u (point_in u.ioa (points_of x))) (absent_law m u.ca e)
 
   -- A place: the update changes the point there.
-  pub target_place : (at : ℕ) → target_at m u ≡ Place at → Targeted m u at
+  pub target_place : (at : ℕ) → target_at m u ≡ Some at → Targeted m u at
   unfolding target_at
   target_place at e = of_seat (seat_at m u.ca) refl e
     where
       of_kind_lem : (i first h : ℕ) → seat_at m u.ca ≡ here i first h → (a : ℕ) → find_at m first h u.ioa ≡ Ok a
-          → (b : Bool) → eqb (get_or m a 0) u.kind ≡ b → pick b (Place a) Skipped ≡ Place at → Targeted m u at
+          → (b : Bool) → eqb (get_or m a 0) u.kind ≡ b → pick b (Some a) None ≡ Some at → Targeted m u at
       of_kind_lem i first h p a q true k f = let z : a ≡ at = cc in subst (λ (x : ℕ). Targeted m u x) z (place_found i first h p a q k)
       of_kind_lem i first h p a q false k f = let z : ◌≡◌ {A = ℕ} 0 1 = cc in absurd (omega arith)
 
-      of_spot : (i first h : ℕ) → seat_at m u.ca ≡ here i first h → (x : Result ℕ ℕ) → find_at m first h u.ioa ≡ x → target_on m u x ≡ Place at → Targeted m u at
+      of_spot : (i first h : ℕ) → seat_at m u.ca ≡ here i first h → (x : Result ℕ ℕ) → find_at m first h u.ioa ≡ x → target_on m u x ≡ Some at → Targeted m u at
       of_spot i first h p (Ok a) q f = of_kind_lem i first h p a q (eqb (get_or m a 0) u.kind) refl f
       of_spot i first h p (Err a) q f = let z : ◌≡◌ {A = ℕ} 0 1 = cc in absurd (omega arith)
 
-      of_seat : (x : Option Seat) → seat_at m u.ca ≡ x → target_in m u x ≡ Place at → Targeted m u at
+      of_seat : (x : Option Seat) → seat_at m u.ca ≡ x → target_in m u x ≡ Some at → Targeted m u at
       of_seat (Some s) p f = of_spot s.index s.first s.held p (find_at m s.first s.held u.ioa) refl f
       of_seat None p f = let z : ◌≡◌ {A = ℕ} 0 1 = cc in absurd (omega arith)
 
   -- Skipped: it changes nothing.
-  pub target_skipped : target_at m u ≡ Skipped → update_of (table_of m) u ≡ none
+  pub target_skipped : target_at m u ≡ None → update_of (table_of m) u ≡ none
   unfolding target_at
   target_skipped e = of_seat (seat_at m u.ca) refl e
     where
       of_kind_lem : (i first h : ℕ) → seat_at m u.ca ≡ here i first h → (a : ℕ) → find_at m first h u.ioa ≡ Ok a
-          → (b : Bool) → eqb (get_or m a 0) u.kind ≡ b → pick b (Place a) Skipped ≡ Skipped → update_of (table_of m) u ≡ none
+          → (b : Bool) → eqb (get_or m a 0) u.kind ≡ b → pick b (Some a) None ≡ None → update_of (table_of m) u ≡ none
       of_kind_lem i first h p a q true k f = let z : ◌≡◌ {A = ℕ} 0 1 = cc in absurd (omega arith)
       of_kind_lem i first h p a q false k f = other_kind i first h p a q k
 
-      of_spot : (i first h : ℕ) → seat_at m u.ca ≡ here i first h → (x : Result ℕ ℕ) → find_at m first h u.ioa ≡ x → target_on m u x ≡ Skipped → update_of (table_of m) u ≡ none
+      of_spot : (i first h : ℕ) → seat_at m u.ca ≡ here i first h → (x : Result ℕ ℕ) → find_at m first h u.ioa ≡ x → target_on m u x ≡ None → update_of (table_of m) u ≡ none
       of_spot i first h p (Ok a) q f = of_kind_lem i first h p a q (eqb (get_or m a 0) u.kind) refl f
       of_spot i first h p (Err a) q f = no_point i first h p a q
 
-      of_seat : (x : Option Seat) → seat_at m u.ca ≡ x → target_in m u x ≡ Skipped → update_of (table_of m) u ≡ none
+      of_seat : (x : Option Seat) → seat_at m u.ca ≡ x → target_in m u x ≡ None → update_of (table_of m) u ≡ none
       of_seat (Some s) p f = of_spot s.index s.first s.held p (find_at m s.first s.held u.ioa) refl f
       of_seat None p f = no_station p
 
 -- ---- the target as the code finds it
 
+-- a place that `ok` passes on was found
+pub found_place : (x : Result ℕ ℕ) (a : ℕ) → Some a ≡ result_ok x → x ≡ Ok a
+found_place (Ok b) a e = cc
+found_place (Err b) a e = let z : ◌≡◌ {A = ℕ} 0 1 = cc in absurd (omega arith)
+
 module _ (m : List ℕ) (u : Update) where
-  pub target_unplanned : seat_at m u.ca ≡ None → Skipped ≡ target_at m u
+  pub target_unplanned : seat_at m u.ca ≡ None → None ≡ target_at m u
   unfolding target_at
   target_unplanned e = sym (ap (target_in m u) e)
 
-  module _ (i first h : ℕ) (e : seat_at m u.ca ≡ here i first h) where
-    pub target_missing : (a : ℕ) → find_at m first h u.ioa ≡ Err a → Skipped ≡ target_at m u
+  module _ (s : Seat) (e : seat_at m u.ca ≡ Some s) where
+    pub target_missing : (x : Result ℕ ℕ) → x ≡ find_at m s.first s.held u.ioa → None ≡ result_ok x → None ≡ target_at m u
     unfolding target_at
-    target_missing a f = sym (ap (target_in m u) e ∙ ap (target_on m u) f)
+    target_missing (Ok a) f n = let z : ◌≡◌ {A = ℕ} 0 1 = cc in absurd (omega arith)
+    target_missing (Err a) f n = sym (ap (target_in m u) e ∙ ap (target_on m u) (sym f))
 
-    pub target_other : (a : ℕ) → find_at m first h u.ioa ≡ Ok a → (get_or m a 0 ≡ u.kind → ⊥) → Skipped ≡ target_at m u
+    pub target_other : (a : ℕ) → find_at m s.first s.held u.ioa ≡ Ok a → (get_or m a 0 ≡ u.kind → ⊥) → None ≡ target_at m u
     unfolding target_at
     target_other a f n = sym (ap (target_in m u) e ∙ ap (target_on m u) f ∙ simp (ne_eqb _ _ n))
 
-    pub target_here : (a : ℕ) → find_at m first h u.ioa ≡ Ok a → get_or m a 0 ≡ u.kind → Place a ≡ target_at m u
+    pub target_here : (a : ℕ) → find_at m s.first s.held u.ioa ≡ Ok a → get_or m a 0 ≡ u.kind → Some a ≡ target_at m u
     unfolding target_at
     target_here a f k = sym (ap (target_in m u) e ∙ ap (target_on m u) f ∙ simp (eq-eqb _ _ k))

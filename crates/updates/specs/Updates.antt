@@ -12,8 +12,6 @@ use Rattle.lookup.specs.Find.{find_at}
 use Rattle.table.specs.Memory.{table_of, well_formed}
 use Rattle.registry.specs.Effect.{holding}
 use Rattle.answers.specs.Process.{Update, update_octets, update_at, updates_at, update_of, table_with, table_after, told_of, told_by}
-use Rattle.updates.specs.declared.Target.{Target}
-use Rattle.updates.specs.declared.Target.TheVariants.{Place, Skipped}
 
 -- a table's memory, and a whole update from `at` on
 abbrev pub UpdateIn : List ℕ → List ℕ → ℕ → Type 0
@@ -22,16 +20,16 @@ UpdateIn m us at = (well_formed m ≡ true) × (at + update_octets ≤ length us
 -- ---- which point an update means
 
 -- the place found, where the point there has the update's type
-abbrev pub target_on : List ℕ → Update → Result ℕ ℕ → Target
-target_on m u (Ok at) = pick (eqb (get_or m at 0) u.kind) (Place at) Skipped
-target_on m u (Err at) = Skipped
+abbrev pub target_on : List ℕ → Update → Result ℕ ℕ → Option ℕ
+target_on m u (Ok at) = pick (eqb (get_or m at 0) u.kind) (Some at) None
+target_on m u (Err at) = None
 
-abbrev pub target_in : List ℕ → Update → Option Seat → Target
+abbrev pub target_in : List ℕ → Update → Option Seat → Option ℕ
 target_in m u (Some seat) = target_on m u (find_at m seat.first seat.held u.ioa)
-target_in m u None = Skipped
+target_in m u None = None
 
 -- the place that an update means
-unfoldable pub target_at : List ℕ → Update → Target
+unfoldable pub target_at : List ℕ → Update → Option ℕ
 target_at m u = target_in m u (seat_at m u.ca)
 
 -- ---- storing and telling

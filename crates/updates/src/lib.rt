@@ -24,30 +24,20 @@ pub const UPDATE_OCTETS: usize = 18;
 
 // ---- which point an update means
 
-// The place of the point that an update means; skipped where its address is unknown or the point has another type.
-#[derive(Clone, Copy)]
-enum Target {
-    Place(usize),
-    Skipped,
-}
-
-// The target of the update at `at`.
-fn can_apply_update(m: &[u8], updates: &[u8], at: usize) -> Target
+// The place of the point that the update at `at` means; none where its address is unknown or the point has another type.
+#[tactic(auto, using(crate::proofs::Meant::target_unplanned))]
+fn can_apply_update(m: &[u8], updates: &[u8], at: usize) -> Option<usize>
     requires { UpdateIn m.now updates.now at }
     ensures { result ≡ target_at m.now (update_at updates.now at) }
 {
     let ca = octets::two_at(updates, at);
     let ioa = octets::three_at(updates, at + UPDATE_IOA_OFFSET);
-    let Some(seat) = lookup::seat_at(m, ca) else {
-        return Target::Skipped;
-    };
-    let Ok(place) = lookup::find(m, seat.first, seat.held, ioa) else {
-        return Target::Skipped;
-    };
+    let seat = lookup::seat_at(m, ca)?;
+    let place = lookup::find(m, seat.first, seat.held, ioa).ok()?;
     if m[place] != updates[at + UPDATE_TYPE_OFFSET] {
-        return Target::Skipped;
+        return None;
     }
-    Target::Place(place)
+    Some(place)
 }
 
 // ---- sizes
@@ -57,11 +47,12 @@ fn told_of(m: &[u8], updates: &[u8], at: usize) -> usize
     requires { UpdateIn m.now updates.now at }
     ensures { (result ≡ length (told_one m.now updates.now at)) × (result ≤ most_told) }
 {
-    let target = can_apply_update(m, updates, at);
-    let Target::Place(_) = target else {
-        return 0;
-    };
-    HEADER_OCTETS + ADDRESS_OCTETS + limits::size::point_octets(updates[at + UPDATE_TYPE_OFFSET])
+    match can_apply_update(m, updates, at) {
+        Some(_) => HEADER_OCTETS
+            + ADDRESS_OCTETS
+            + limits::size::point_octets(updates[at + UPDATE_TYPE_OFFSET]),
+        None => 0,
+    }
 }
 
 // The octets that the first n updates will tell; nothing is written.
@@ -70,12 +61,8 @@ pub fn told_octets(m: &[u8], updates: &[u8], n: usize) -> usize
     ensures { result ≡ length (told_by_all m.now updates.now 0 n) }
 {
     let mut sum = 0;
-    let mut at = 0;
-    let mut left = n;
-    while 0 < left {
-        sum += told_of(m, updates, at);
-        at += UPDATE_OCTETS;
-        left -= 1;
+    for i in 0..n {
+        sum += told_of(m, updates, UPDATE_OCTETS * i);
     }
     sum
 }
@@ -83,6 +70,7 @@ pub fn told_octets(m: &[u8], updates: &[u8], n: usize) -> usize
 // ---- storing and telling
 
 // Stores the element of a value that lies in `updates` at `from`: past it a place is zero already.
+#[tactic(auto, unfolding(crate::specs::Updates::stored))]
 fn store(m: &mut [u8], place: usize, updates: &[u8], from: usize, kind: u8)
     requires { (place + (value_offset + value_size) ≤ length m.old) × (from + value_size ≤ length updates.now) }
     ensures { m.new ≡ stored m.old place kind updates.now from }
@@ -96,8 +84,7 @@ fn apply_one(m: &mut [u8], updates: &[u8], at: usize, out: &mut [u8], o: usize) 
     requires { UpdateIn m.old updates.now at × (o + length (told_one m.old updates.now at) ≤ length out.old) }
     ensures { Applies (left_one m.old updates.now at) (told_one m.old updates.now at) out.old o result m.new out.new }
 {
-    let target = can_apply_update(m, updates, at);
-    let Target::Place(place) = target else {
+    let Some(place) = can_apply_update(m, updates, at) else {
         return o;
     };
     let kind = updates[at + UPDATE_TYPE_OFFSET];
@@ -112,12 +99,8 @@ pub fn apply_model_updates(m: &mut [u8], updates: &[u8], n: usize, out: &mut [u8
     ensures { Applies (left_by_all m.old updates.now 0 n) (told_by_all m.old updates.now 0 n) out.old 0 result m.new out.new }
 {
     let mut o = 0;
-    let mut at = 0;
-    let mut left = n;
-    while 0 < left {
-        o = apply_one(m, updates, at, out, o);
-        at += UPDATE_OCTETS;
-        left -= 1;
+    for i in 0..n {
+        o = apply_one(m, updates, UPDATE_OCTETS * i, out, o);
     }
     o
 }

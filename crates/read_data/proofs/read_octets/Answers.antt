@@ -3,13 +3,8 @@ use mathlib.Core.Path.{sym, ap, ◌∙◌}
 use Prim.Native.Nat.{ℕ}
 use Rattle.lookup.specs.Find.{find_at}
 use Rattle.read_data.specs.Reads.{asked_of}
-use Rattle.read_data.proofs.Turns.{asked_small, asked_start, asked_on, asked_missing, asked_end}
+use Rattle.read_data.proofs.Turns.{asked_small, asked_on, asked_missing, asked_end}
 use Rattle.read_data.proofs.read_octets.Goals as goal
-
-pub loop-i-init : goal.loop-i-init
-loop-i-init c =
-    let a = c.args in
-    (asked_start a.m.now a.first a.h a.asdu.now 6 a.command.count, omega arith)
 
 pub returns-in_err-octets : goal.returns-in_err-octets
 returns-in_err-octets c =

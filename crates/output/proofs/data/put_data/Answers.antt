@@ -1,6 +1,6 @@
 -- The chains of the places in order give the size and the octets of the report; the test of the room decides.
 use native.Mathlib.Omega.{arith}
-use mathlib.Core.Path.{◌≡◌, refl, ap, ◌∙◌}
+use mathlib.Core.Path.{◌≡◌, ap, ◌∙◌}
 use Prim.Native.Nat.{ℕ}
 use lib.ListN.{length, replicate, length-replicate}
 use Rattle.octets.specs.Over.{over}
@@ -15,13 +15,6 @@ use Rattle.output.specs.Data.{data_of}
 use Rattle.output.proofs.Answer.{Ready, ready, short_wrote, short_written, full_wrote, full_written}
 use Rattle.output.proofs.data.put_data.Goals as goal
 use Rattle.output.proofs.data.put_data.Goals.{After-size_report-octets}
-
-pub size_report-octets-requires : goal.size_report-octets-requires
-size_report-octets-requires c =
-    let few = c.requires.2.1 in
-    let h = length-replicate {A = ℕ} 64 0 in
-    let z = length-replicate {A = ℕ} 4096 0 in
-    (c.requires.2, c.requires.4.0, c.requires.3.0, (omega arith, omega arith, refl))
 
 -- what the writer may rely on
 go : (c : After-size_report-octets)

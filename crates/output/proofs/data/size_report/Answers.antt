@@ -1,18 +1,12 @@
 -- The places are put in the order of an answer and linked in it; the counts of the chains give the size.
 use native.Mathlib.Omega.{arith}
-use mathlib.Core.Path.{ap, ◌∙◌, subst}
+use mathlib.Core.Path.{subst}
 use mathlib.Core.List.{List}
 use Prim.Native.Nat.{ℕ}
-use lib.ListN.{length, take, replicate, length-replicate}
+use lib.ListN.{replicate, length-replicate}
 use Rattle.chains.specs.Chain.{slot_on, LinkedBy}
-use Rattle.chains.proofs.Chains.{length_counts}
 use Rattle.output.proofs.Answer.{order_taken, order_inside, order_long}
 use Rattle.output.proofs.data.size_report.Goals as goal
-
-pub arrange-requires : goal.arrange-requires
-arrange-requires c =
-    let z = length-replicate {A = ℕ} 4096 0 in
-    (c.requires.0, omega arith)
 
 pub link-requires : goal.link-requires
 link-requires c =
@@ -23,14 +17,6 @@ link-requires c =
     let few = c.requires.0.1 in
     let l = order_long r.every a.m.now r.base r.n (replicate 4096 0) c.arrange.new.order o.ensures (omega arith) in
     (c.requires.0, (omega arith, order_inside r.every a.m.now r.base r.n (replicate 4096 0) c.arrange.new.order o.ensures), c.requires.3)
-
-pub report_octets-requires : goal.report_octets-requires
-report_octets-requires c =
-    let a = c.args in
-    let k = c.link in
-    let o = c.arrange in
-    let n = ap length k.ensures.2 ∙ length_counts (slot_on a.s a.m.now a.reach.base) (take a.reach.n c.arrange.new.order) in
-    (c.requires.1, c.requires.2, omega arith)
 
 pub returns : goal.returns
 returns c =

@@ -32,11 +32,6 @@ put_object-requires c =
     let s = single_long a.m.now a.at a.cause a.ca in
     (omega arith, e.1, omega (arith, e.0))
 
-pub overflow_add-result : goal.overflow_add-result
-overflow_add-result c =
-    let e = c.point_octets-e.ensures.1 in
-    omega arith
-
 pub overflow_add-result-2 : goal.overflow_add-result-2
 overflow_add-result-2 c =
     let p = c.put_header-o.ensures.0 in
