@@ -1,8 +1,7 @@
 -- One point looked at, and the points of a list looked at one after another, as the code runs: nobody need believe these, `found_law` says what they come to.
-use Rattle.std.specs.Prelude.{ℕ, ◌-◌, Bool, true, false, List, [], ◌∷◌, eqb, get_or}
+use Rattle.std.specs.Prelude.{None, ℕ, ◌-◌, Bool, true, false, List, [], ◌∷◌, eqb, get_or}
 use Rattle.limits.specs.Test.{◌&◌, pick as choose}
 use Rattle.model.specs.declared.Request.{Request}
-use Rattle.model.specs.declared.Group.TheVariants.{None}
 use Rattle.among.specs.declared.Search.{Search}
 
 -- a record that stands for none

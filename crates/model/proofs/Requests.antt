@@ -18,8 +18,7 @@ use Rattle.octets.specs.Over.{over}
 use Rattle.octets.specs.Number.{zeros}
 use Rattle.octets.proofs.At.{are_zeros}
 use Rattle.model.specs.declared.Point.{Point}
-use Rattle.model.specs.declared.Group.{Group}
-use Rattle.model.specs.declared.Group.TheVariants.{None, Number}
+use Rattle.std.specs.Prelude.{Option, Some, None}
 use Rattle.model.specs.declared.Request.{Request}
 use Rattle.model.specs.Place.{is_counter, valid, point_ok, place_of}
 use Rattle.model.specs.Request.{group_ok, counter_ok, group_number, element, own_fault, point_of}
@@ -93,14 +92,14 @@ faultless planned q e =
     }
 
 -- The number of a group that passed its test is at most `most`.
-pub group_at_most : (most : ℕ) (g : Group) → group_ok most g ≡ true → group_number g ≤ most
+pub group_at_most : (most : ℕ) (g : Option ℕ) → group_ok most g ≡ true → group_number g ≤ most
 group_at_most most None e = omega arith
-group_at_most most (Number g) e = leb-true _ _ (both _ _ e).1
+group_at_most most (Some g) e = leb-true _ _ (both _ _ e).1
 
 -- A counter group, where there is one, stands on a counter.
-counter_fits : (kind : ℕ) (g : Group) → counter_ok kind g ≡ true → (eqb (group_number g) 0 || is_counter kind) ≡ true
+counter_fits : (kind : ℕ) (g : Option ℕ) → counter_ok kind g ≡ true → (eqb (group_number g) 0 || is_counter kind) ≡ true
 counter_fits kind None e = refl
-counter_fits kind (Number g) e = go (eqb g 0) (is_counter kind) e
+counter_fits kind (Some g) e = go (eqb g 0) (is_counter kind) e
   where
     go : (a b : Bool) → b ≡ true → (a || b) ≡ true
     go true b f = refl

@@ -1,27 +1,25 @@
 -- A point as a caller gives it for registration: the record, its own tests 11 to 15, the point that it becomes, and the flat form of 24 octets.
 -- Document 01, 'Points, stations and shares' and 'Numbers given back'; DESIGN.md, section 5.
-use Rattle.std.specs.Prelude.{ℕ, zero, suc, ◌+◌, ◌-◌, List, [], ◌∷◌, ◌++◌, Bool, true, take, get_or, replicate, leb, eqb}
+use Rattle.std.specs.Prelude.{Option, Some, None, unwrap_or, ℕ, zero, suc, ◌+◌, ◌-◌, List, [], ◌∷◌, ◌++◌, Bool, true, take, get_or, replicate, leb, eqb}
 use Rattle.limits.specs.Test.{◌&◌, pick}
 use Rattle.limits.specs.Size.{point_octets}
 use Rattle.limits.specs.declared.outcome.Outcome.{Outcome}
 use Rattle.limits.specs.declared.outcome.Outcome.TheVariants.{Done, UnknownTypeOrAddress, StationNotPlanned, GroupOutOfRange, CounterGroupOutOfRange, NotCounter}
 use Rattle.octets.specs.Number.{two, four, twelve}
 use Rattle.model.specs.declared.Point.{Point}
-use Rattle.model.specs.declared.Group.{Group}
-use Rattle.model.specs.declared.Group.TheVariants.{None, Number}
 use Rattle.model.specs.declared.Request.{Request}
 use Rattle.layout.specs.Layout.{value_size}
 use Rattle.model.specs.Place.{is_counter, highest_ioa, groups, counter_groups}
 
 -- A group that is given lies from 1 to `most`; "no group" is not group 0.
-abbrev pub group_ok : ℕ → Group → Bool
+abbrev pub group_ok : ℕ → Option ℕ → Bool
 group_ok most None = true
-group_ok most (Number g) = leb 1 g & leb g most
+group_ok most (Some g) = leb 1 g & leb g most
 
 -- A counter group is given only with a counter.
-abbrev pub counter_ok : ℕ → Group → Bool
+abbrev pub counter_ok : ℕ → Option ℕ → Bool
 counter_ok kind None = true
-counter_ok kind (Number g) = is_counter kind
+counter_ok kind (Some g) = is_counter kind
 
 -- The first of the tests 11 to 15 that fails, `planned` being whether the plan has the CA; Done where none does.
 unfoldable pub own_fault : Bool → Request → Outcome
@@ -37,9 +35,8 @@ own_fault planned q =
     UnknownTypeOrAddress
 
 -- The number that a place keeps for a group: 0 for none.
-abbrev pub group_number : Group → ℕ
-group_number None = 0
-group_number (Number g) = g
+abbrev pub group_number : Option ℕ → ℕ
+group_number g = unwrap_or g 0
 
 -- The octets of an element of e octets; any past it are ignored and kept as zero.
 unfoldable pub element : ℕ → List ℕ → List ℕ
@@ -62,8 +59,8 @@ abbrev pub record_size : ℕ
 record_size = 24
 
 -- 0 no, else yes
-abbrev pub given_group : ℕ → ℕ → Group
-given_group has g = pick (eqb has 0) None (Number g)
+abbrev pub given_group : ℕ → ℕ → Option ℕ
+given_group has g = pick (eqb has 0) None (Some g)
 
 abbrev pub request_at : List ℕ → ℕ → Request
 request_at m at =

@@ -32,20 +32,13 @@ pub struct Point {
     pub value: [u8; VALUE_SIZE],
 }
 
-// A group, or none: the Rust's `Option<u8>`.
-#[derive(Clone, Copy)]
-pub enum Group {
-    None,
-    Number(u8),
-}
-
 // A point as a caller gives it for registration: any numbers that fit the fields.
 #[derive(Clone, Copy)]
 pub struct Request {
     pub ca: u16,
     pub ioa: u32,
     pub kind: u8,
-    pub group: Group,
-    pub counter: Group,
+    pub group: Option<u8>,
+    pub counter: Option<u8>,
     pub value: [u8; VALUE_SIZE],
 }

@@ -2,20 +2,17 @@
 ghost use Rattle.std.specs.Prelude.{◌≡◌, ◌+◌, ◌≤◌, ◌<◌, length};
 ghost use Rattle.layout.specs.Layout.{value_size};
 ghost use Rattle.model.specs.Place.{is_counter};
-ghost use Rattle.model.specs.Request.{record_size, group_ok, counter_ok, group_number, given_group, element, own_fault, point_of, request_at};
+ghost use Rattle.model.specs.Request.{record_size, group_ok, counter_ok, given_group, element, own_fault, point_of, request_at};
 
-use crate::{COUNTER_GROUPS, GROUPS, Group, HIGHEST_IOA, M_IT_NA_1, M_IT_TB_1, Point, Request};
+use crate::{COUNTER_GROUPS, GROUPS, HIGHEST_IOA, M_IT_NA_1, M_IT_TB_1, Point, Request};
 use layout::VALUE_SIZE;
 use limits::outcome::Outcome;
 
 // A record's group: the first octet says whether there is one.
-fn given_group(has: u8, group: u8) -> Group
+fn given_group(has: u8, group: u8) -> Option<u8>
     ensures { result ≡ given_group has group }
 {
-    if has == 0 {
-        return Group::None;
-    }
-    Group::Number(group)
+    (has != 0).then_some(group)
 }
 
 // The request in the record of 24 octets at `at`.
@@ -41,18 +38,10 @@ pub fn request_at(records: &[u8], at: usize) -> Request
 
 // Does a group that is given lie from 1 to `most`?
 #[tactic(auto, using(crate::proofs::Groups::group_below, crate::proofs::Groups::group_from))]
-fn group_ok(most: u8, group: Group) -> bool
+fn group_ok(most: u8, group: Option<u8>) -> bool
     ensures { result ≡ group_ok most group }
 {
-    match group {
-        Group::None => true,
-        Group::Number(g) => {
-            if g < 1 {
-                return false;
-            }
-            g <= most
-        }
-    }
+    group.is_none_or(|g| 1 <= g && g <= most)
 }
 
 // Is the type a counter's?
@@ -66,13 +55,10 @@ pub fn is_counter(kind: u8) -> bool
 }
 
 // Is a counter group given only with a counter?
-fn counter_ok(kind: u8, counter: Group) -> bool
+fn counter_ok(kind: u8, counter: Option<u8>) -> bool
     ensures { result ≡ counter_ok kind counter }
 {
-    match counter {
-        Group::None => true,
-        Group::Number(_) => is_counter(kind),
-    }
+    counter.is_none() || is_counter(kind)
 }
 
 // The first of the tests 11 to 15 that fails, `planned` being whether the plan has the CA.
@@ -102,16 +88,6 @@ pub fn own_fault(planned: bool, q: Request) -> Outcome
     Outcome::Done
 }
 
-// The number that a place keeps for a group: 0 for none.
-fn group_number(group: Group) -> u8
-    ensures { result ≡ group_number group }
-{
-    match group {
-        Group::None => 0,
-        Group::Number(g) => g,
-    }
-}
-
 // A value's octets, those past its element zero.
 fn element_of(value: [u8; VALUE_SIZE], size: usize) -> [u8; VALUE_SIZE]
     requires { size ≤ value_size }
@@ -123,6 +99,7 @@ fn element_of(value: [u8; VALUE_SIZE], size: usize) -> [u8; VALUE_SIZE]
 }
 
 // The point that a request becomes.
+#[tactic(auto, unfolding(crate::specs::Request::point_of))]
 pub fn point_of(q: Request) -> Point
     ensures { result ≡ point_of q }
 {
@@ -134,8 +111,8 @@ pub fn point_of(q: Request) -> Point
     Point {
         kind: q.kind,
         ioa: q.ioa,
-        group: group_number(group) as u16,
-        counter: group_number(counter),
+        group: u16::from(group.unwrap_or(0)),
+        counter: counter.unwrap_or(0),
         value: value,
     }
 }

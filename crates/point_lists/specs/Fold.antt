@@ -1,8 +1,7 @@
 -- A point tested among all, and the points of a list one after another, as the code runs: nobody need believe these, `answer_law` says what they come to.
-use Rattle.std.specs.Prelude.{ℕ, Bool, List, [], ◌∷◌, get_or}
+use Rattle.std.specs.Prelude.{None, ℕ, Bool, List, [], ◌∷◌, get_or}
 use Rattle.limits.specs.Test.{pick as choose}
 use Rattle.model.specs.declared.Request.{Request}
-use Rattle.model.specs.declared.Group.TheVariants.{None}
 use Rattle.among.specs.Fold.{folded as looked_through}
 use Rattle.point_lists.specs.Later.{search_for, judged}
 use Rattle.point_lists.specs.declared.Later.{Later}

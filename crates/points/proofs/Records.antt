@@ -12,8 +12,7 @@ use lib.Dec.{ltb}
 use borrow.Author.Tests.{lt-ltb, le-ltb, ltb-true, ltb-false}
 use Rattle.octets.specs.Over.{over}
 use Rattle.octets.proofs.Laws.{length_over, take_over}
-use Rattle.model.specs.declared.Group.{Group}
-use Rattle.model.specs.declared.Group.TheVariants.{None, Number}
+use Rattle.std.specs.Prelude.{Option, Some, None}
 use Rattle.model.specs.declared.Request.{Request}
 use Rattle.model.specs.Request.{given_group, request_at, requests_at}
 use Rattle.table.proofs.Points.{gets, gets_drop}
@@ -33,9 +32,9 @@ use Rattle.points.specs.declared.Taken.{Taken}
 request_drop : (m : List ℕ) (at : ℕ) → request_at m at ≡ request_at (drop at m) 0
 request_drop m at = simp (get_or-drop, add-zero, add_assoc)
 
-group_back : (g : Group) → given_group (has_of g) (number_in g) ≡ g
+group_back : (g : Option ℕ) → given_group (has_of g) (number_in g) ≡ g
 group_back None = refl
-group_back (Number g) = refl
+group_back (Some g) = refl
 
 -- The record of a point is read back as the point.
 pub record_law : (q : Request) (Y : List ℕ) → request_at (flat_record q ++ Y) 0 ≡ whole q

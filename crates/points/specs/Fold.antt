@@ -1,9 +1,8 @@
 -- A record laid down, and the records of a list laid down one after another, as the code runs: nobody need believe these, `taken_law` says what they come to.
-use Rattle.std.specs.Prelude.{ℕ, ◌+◌, ◌*◌, Bool, true, false, List, [], ◌∷◌, ltb, get_or}
+use Rattle.std.specs.Prelude.{None, ℕ, ◌+◌, ◌*◌, Bool, true, false, List, [], ◌∷◌, ltb, get_or}
 use Rattle.limits.specs.Test.{pick as choose}
 use Rattle.octets.specs.Over.{over}
 use Rattle.model.specs.declared.Request.{Request}
-use Rattle.model.specs.declared.Group.TheVariants.{None}
 use Rattle.batch_records.specs.Records.{record_octets, records_in}
 use Rattle.points.specs.Points.{flat_record}
 use Rattle.points.specs.declared.Taken.{Taken}

@@ -1,22 +1,19 @@
 -- A point record as octets: CA 2, IOA 4, type 1, has interrogation group 1, group 1, has counter group 1, counter group 1, spare 1, value 12.
 -- DESIGN.md, section 5. `record_law` ties it to `request_at`.
-use Rattle.std.specs.Prelude.{ℕ, ◌+◌, ◌*◌, ◌/◌, ◌%◌, List, [], ◌∷◌, ◌++◌, map, take}
+use Rattle.std.specs.Prelude.{Option, Some, None, unwrap_or, ℕ, ◌+◌, ◌*◌, ◌/◌, ◌%◌, List, [], ◌∷◌, ◌++◌, map, take}
 use Rattle.octets.specs.Number.{twelve}
 use Rattle.layout.specs.Layout.{most_places}
-use Rattle.model.specs.declared.Group.{Group}
-use Rattle.model.specs.declared.Group.TheVariants.{None, Number}
 use Rattle.model.specs.declared.Request.{Request}
 use Rattle.batch_records.specs.Records.{record_octets}
 
 -- Is a group given: 0 no, 1 yes.
-abbrev pub has_of : Group → ℕ
+abbrev pub has_of : Option ℕ → ℕ
 has_of None = 0
-has_of (Number g) = 1
+has_of (Some g) = 1
 
 -- The number of a group, 0 for none.
-abbrev pub number_in : Group → ℕ
-number_in None = 0
-number_in (Number g) = g
+abbrev pub number_in : Option ℕ → ℕ
+number_in g = unwrap_or g 0
 
 -- The octets of a point record.
 unfoldable pub flat_record : Request → List ℕ

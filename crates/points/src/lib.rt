@@ -5,13 +5,13 @@ ghost use Rattle.std.specs.Prelude.{◌≡◌, ◌≤◌};
 ghost use Rattle.batch_records.specs.Records.{records_in};
 ghost use Rattle.replies.specs.Replies.{Replies};
 ghost use Rattle.registry.specs.Registry.{registering_all};
-ghost use Rattle.points.specs.Points.{has_of, number_in, flat_record, deciding_octets, batch_of};
+ghost use Rattle.points.specs.Points.{flat_record, deciding_octets, batch_of};
 ghost use Rattle.points.specs.Fold.{stepped, folded, none_taken};
 ghost use Rattle.points.specs.Entry.{Registered, Answers};
 
 use batch_records::RECORD_OCTETS;
 use layout::MOST_PLACES;
-use model::{Group, Request};
+use model::Request;
 use registry::Reply;
 
 // How many records have been taken out, and whether there is no room for more.
@@ -19,26 +19,6 @@ use registry::Reply;
 pub struct Taken {
     pub count: usize,
     pub done: bool,
-}
-
-// Is a group given?
-fn has_of(group: Group) -> u8
-    ensures { result ≡ has_of group }
-{
-    match group {
-        Group::None => 0,
-        Group::Number(_) => 1,
-    }
-}
-
-// The number of a group, 0 for none.
-fn number_in(group: Group) -> u8
-    ensures { result ≡ number_in group }
-{
-    match group {
-        Group::None => 0,
-        Group::Number(g) => g,
-    }
 }
 
 // The octets of a point record.
@@ -56,10 +36,10 @@ pub fn record_of(q: Request) -> [u8; RECORD_OCTETS]
         (q.ioa / 65536 % 256) as u8,
         (q.ioa / 16777216) as u8,
         q.kind,
-        has_of(group),
-        number_in(group),
-        has_of(counter),
-        number_in(counter),
+        u8::from(group.is_some()),
+        group.unwrap_or(0),
+        u8::from(counter.is_some()),
+        counter.unwrap_or(0),
         0,
         v[0],
         v[1],
