@@ -8,6 +8,7 @@ use native.Mathlib.Nat.{add-zero, add_assoc}
 use Rattle.std.proofs.lemmas.List.{take_more}
 use lib.ListN.{length, take, drop, get_or, length-append}
 use lib.Seq.{get_or-drop, drop-append_seam, take_all}
+use Rattle.octets.specs.Number.{twelve}
 use Rattle.octets.specs.Over.{over}
 use Rattle.octets.proofs.Laws.{take_over}
 use Rattle.std.specs.Prelude.{Option, Some, None}
@@ -86,10 +87,14 @@ laid_more m ps i d room within before =
     ap (λ (n : ℕ). take n (over m (24 * i) (flat_record q))) e ∙ take_over m (flat_record q) (24 * i) fits ∙ ap (λ (l : List ℕ). l ++ flat_record q) before
     ∙ ap (λ (l : List ℕ). flat_records (take i ps) ++ l) (sym (append-nil (flat_record q))) ∙ sym (flat_append (take i ps) (q ∷ [])) ∙ ap flat_records (sym (take_more ps i d within))
 
+-- Twelve octets, one by one.
+pub twelve_is : (v : List ℕ) → length v ≡ 12 → twelve v 0 ≡ v
+unfolding gets
+twelve_is v e = gets_drop 0 12 v (omega arith) ∙ take_all 12 v (omega arith)
+
 -- A point record that has twelve octets of value, as its type says, is whole; so is a list of them, and where there is room for all the batch is the list.
 pub whole_is : (q : Request) → Twelve q → whole q ≡ q
-unfolding gets
-whole_is q e = let v = gets_drop 0 12 q.value (omega arith) ∙ take_all 12 q.value (omega arith) in λ j. record { ca = q.ca; ioa = q.ioa; kind = q.kind; group = q.group; counter = q.counter; value = v j }
+whole_is q e = let v = twelve_is q.value (omega arith) in λ j. record { ca = q.ca; ioa = q.ioa; kind = q.kind; group = q.group; counter = q.counter; value = v j }
 
 pub all_whole : (qs : List Request) → AllTwelve qs → map whole qs ≡ qs
 unfolding AllTwelve

@@ -16,35 +16,16 @@ use registry::Reply;
 pub fn record_of(q: Request) -> [u8; RECORD_OCTETS]
     ensures { result ≡ flat_record q }
 {
-    let group = q.group;
-    let counter = q.counter;
-    let v = q.value;
-    [
-        (q.ca % 256) as u8,
-        (q.ca / 256) as u8,
-        (q.ioa % 256) as u8,
-        (q.ioa / 256 % 256) as u8,
-        (q.ioa / 65536 % 256) as u8,
-        (q.ioa / 16777216) as u8,
-        q.kind,
-        u8::from(group.is_some()),
-        group.unwrap_or(0),
-        u8::from(counter.is_some()),
-        counter.unwrap_or(0),
-        0,
-        v[0],
-        v[1],
-        v[2],
-        v[3],
-        v[4],
-        v[5],
-        v[6],
-        v[7],
-        v[8],
-        v[9],
-        v[10],
-        v[11],
-    ]
+    let mut octets = [0u8; RECORD_OCTETS];
+    octets[..2].copy_from_slice(&q.ca.to_le_bytes());
+    octets[2..6].copy_from_slice(&q.ioa.to_le_bytes());
+    octets[6] = q.kind;
+    octets[7] = u8::from(q.group.is_some());
+    octets[8] = q.group.unwrap_or(0);
+    octets[9] = u8::from(q.counter.is_some());
+    octets[10] = q.counter.unwrap_or(0);
+    octets[12..].copy_from_slice(&q.value);
+    octets
 }
 
 // Lays the records of the points down, as many as there is room for, and gives their number back.
