@@ -74,7 +74,7 @@ module _ (own : Outcome) (known : Bool) where
       by_tests false k n' r' = refl
 
 -- The tests of the record of a point alone.
-pub alone : (t : Table) (p : Request) (m : List ℕ) (r : Reply) → m ≡ flat_record p → r ≡ own_tests t [] 0 (requests_in m) → r.outcome ≡ batch_fault t [] (whole p)
+alone : (t : Table) (p : Request) (m : List ℕ) (r : Reply) → m ≡ flat_record p → r ≡ own_tests t [] 0 (requests_in m) → r.outcome ≡ batch_fault t [] (whole p)
 unfolding own_tests
 alone t p m r f e = ap (λ (z : Reply). z.outcome) e ∙ ap (λ (l : List Request). (own_tests t [] 0 l).outcome) (ap requests_in f ∙ alone_law p) ∙ by_test (is_done (batch_fault t [] (whole p))) refl
   where
@@ -88,7 +88,11 @@ alone t p m r f e = ap (λ (z : Reply). z.outcome) e ∙ ap (λ (l : List Reques
     by_test true d = sym (done_is _ d)
     by_test false d = refl
 
-module _ (t : Table) (p : Request) (earlier : List Request) (o : Outcome) (a : o ≡ batch_fault t [] (whole p)) where
+-- what the tests of the record of a point alone give back
+module _ (t : Table) (p : Request) (earlier : List Request) (m : List ℕ) (r : Reply) (f : m ≡ flat_record p) (e : r ≡ own_tests t [] 0 (requests_in m)) where
+  abbrev o : Outcome
+  o = r.outcome
+
   abbrev own : Outcome
   own = own_fault (is_planned (station_of p.ca t.stations)) (whole p)
 
@@ -97,7 +101,7 @@ module _ (t : Table) (p : Request) (earlier : List Request) (o : Outcome) (a : o
 
   alone_is : o ≡ in_batch own known false
   unfolding batch_fault stands_in
-  alone_is = a
+  alone_is = alone t p m r f e
 
   fault_is : batch_fault t (last_first earlier) (whole p) ≡ in_batch own known (stands_in p earlier)
   unfolding batch_fault
@@ -105,7 +109,7 @@ module _ (t : Table) (p : Request) (earlier : List Request) (o : Outcome) (a : o
 
   -- A point that only its address may refuse, which stands earlier.
   pub stands : (o ≡ Done) ⊎ (o ≡ AlreadyRegistered) → stands_in p earlier ≡ true → AddressTwice ≡ batch_fault t (last_first earlier) (whole p)
-  stands e s = sym (fault_is ∙ ap (in_batch own known) s ∙ twice_found own known (cases e) (own_low (is_planned (station_of p.ca t.stations)) (whole p)))
+  stands k s = sym (fault_is ∙ ap (in_batch own known) s ∙ twice_found own known (cases k) (own_low (is_planned (station_of p.ca t.stations)) (whole p)))
     where
       cases : (o ≡ Done) ⊎ (o ≡ AlreadyRegistered) → (in_batch own known false ≡ Done) ⊎ (in_batch own known false ≡ AlreadyRegistered)
       cases (inl d) = inl (sym alone_is ∙ d)
