@@ -11,23 +11,9 @@ use clock::{Clock, Told};
 use model::Request;
 use registry::Reply;
 
-// Registers no points.
-pub fn register_none(table: &mut [u8], points: [Request; 0]) -> Reply
-    ensures { Replies (registering_all (map whole points)) table.old result table.new }
-{
-    point_lists::register_points(table, &points)
-}
-
-// Registers a batch of one point.
-pub fn register_one(table: &mut [u8], points: [Request; 1]) -> Reply
-    ensures { Replies (registering_all (map whole points)) table.old result table.new }
-{
-    point_lists::register_points(table, &points)
-}
-
-// Registers a batch of three points.
-pub fn register_three(table: &mut [u8], points: [Request; 3]) -> Reply
-    ensures { Replies (registering_all (map whole points)) table.old result table.new }
+// Registers a batch of N points.
+pub fn register_batch<const N: usize>(table: &mut [u8], points: [Request; N]) -> Reply
+    ensures { Replies (registering_all (map whole points.entry)) table.old result table.new }
 {
     point_lists::register_points(table, &points)
 }

@@ -4,7 +4,8 @@ use mathlib.Core.List.{List, map}
 use Prim.Native.Nat.{ℕ}
 use Rattle.model.specs.declared.Request.{Request}
 use Rattle.table.specs.Table.{Table}
-use Rattle.registry.specs.Effect.{Reply, Effect, reply_on, memory_on}
+use Rattle.registry.specs.Effect.{Reply}
+use Rattle.registry.specs.Effect.{Effect, reply_on, memory_on}
 use Rattle.replies.specs.Replies.{Replies}
 use Rattle.registry.specs.Registry.{registering_all}
 use Rattle.batch_records.specs.Records.{requests_in}

@@ -1,6 +1,7 @@
 pub mod Turns
 pub mod Alone
-pub mod Steps
 pub mod Longer
+pub mod Faults
+pub mod Rooms
 pub mod Lists
 pub mod Flat

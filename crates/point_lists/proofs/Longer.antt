@@ -1,7 +1,7 @@
 -- A batch cut in two: the own tests go on where those of the first part end, and a first part without room refuses the whole. Of more than 4,096 points
 -- one has no room. Assumes nothing.
 use mathlib.Core.Path.{◌≡◌, refl, sym, ap, ◌∙◌}
-use mathlib.Core.List.{List, [], ◌∷◌, ◌++◌, map}
+use mathlib.Core.List.{List, [], ◌∷◌, ◌++◌, map, reverse, reverse_aux}
 use mathlib.Core.Bool.{Bool, true, false}
 use mathlib.Core.Option.{Option, some}
 use Prim.Native.Nat.{ℕ, suc, ◌+◌, ◌≤◌, ◌<◌}
@@ -24,23 +24,19 @@ use Rattle.table.specs.Change.{station_of, with_points, insert_in, added}
 use Rattle.table.proofs.Parse.{Good}
 use Rattle.table.proofs.Change.{station_found, stations_split, insert_length}
 use Rattle.table.proofs.Cut.{total_at}
-use Rattle.registry.specs.Effect.{Reply, Effect, refused, first_fault}
+use Rattle.registry.specs.Effect.{Reply}
+use Rattle.registry.specs.Effect.{Effect, refused, first_fault}
 use Rattle.registry.specs.History.{AllTwelve}
-use Rattle.registry.specs.Registry.{is_planned, room_fault, is_registered, with_request, stands_in, batch_fault, own_tests, room_tests, registering_all}
+use Rattle.registry.specs.Registry.{is_planned, admission_outcome, room_fault, is_registered, with_request, stands_in, batch_fault, own_tests, room_tests, registering_all}
 use Rattle.registry.proofs.Requests.{accepted_good, planned_is}
 use Rattle.registry.proofs.Batches.{Ready, ready_more, ready_after, passes_accepted}
 
 -- ---- own tests
 
--- a list put before others, its last first
-unfoldable pub onto : List Request → List Request → List Request
-onto e [] = e
-onto e (q ∷ qs) = onto (q ∷ e) qs
-
 -- The own tests of a list in two parts: the first part's fault, or the second part's tests with the first before it.
 pub own_append : (t : Table) (e : List Request) (i : ℕ) (a b : List Request)
-    → own_tests t e i (a ++ b) ≡ pick (is_done (own_tests t e i a).outcome) (own_tests t (onto e a) (i + length a) b) (own_tests t e i a)
-unfolding own_tests onto
+    → own_tests t e i (a ++ b) ≡ pick (is_done (own_tests t e i a).outcome) (own_tests t (reverse_aux a e) (i + length a) b) (own_tests t e i a)
+unfolding own_tests
 own_append t e i [] b = ap (λ (n : ℕ). own_tests t e n b) (let z : i ≡ i + 0 = omega arith in z)
 own_append t e i (q ∷ a) b = by_test (own_append t (q ∷ e) (i + 1) a b) (is_done (batch_fault t e q)) refl
   where
@@ -50,14 +46,14 @@ own_append t e i (q ∷ a) b = by_test (own_append t (q ∷ e) (i + 1) a b) (is_
     stop : Reply
     stop = record { outcome = batch_fault t e q; place = i }
 
-    by_test : own_tests t (q ∷ e) (i + 1) (a ++ b) ≡ pick (is_done on.outcome) (own_tests t (onto (q ∷ e) a) (i + 1 + length a) b) on
+    by_test : own_tests t (q ∷ e) (i + 1) (a ++ b) ≡ pick (is_done on.outcome) (own_tests t (reverse_aux a (q ∷ e)) (i + 1 + length a) b) on
         → (d : Bool) → is_done (batch_fault t e q) ≡ d
         → pick d (own_tests t (q ∷ e) (i + 1) (a ++ b)) stop
-        ≡ pick (is_done (pick d on stop).outcome) (own_tests t (onto (q ∷ e) a) (i + suc (length a)) b) (pick d on stop)
+        ≡ pick (is_done (pick d on stop).outcome) (own_tests t (reverse_aux a (q ∷ e)) (i + suc (length a)) b) (pick d on stop)
     by_test ih true z =
         let n : i + 1 + length a ≡ i + suc (length a) = omega arith in
-        ih ∙ ap (λ (k : ℕ). pick (is_done on.outcome) (own_tests t (onto (q ∷ e) a) k b) on) n
-    by_test ih false z = sym (ap (λ (d : Bool). pick d (own_tests t (onto (q ∷ e) a) (i + suc (length a)) b) stop) z)
+        ih ∙ ap (λ (k : ℕ). pick (is_done on.outcome) (own_tests t (reverse_aux a (q ∷ e)) k b) on) n
+    by_test ih false z = sym (ap (λ (d : Bool). pick d (own_tests t (reverse_aux a (q ∷ e)) (i + suc (length a)) b) stop) z)
 
 -- ---- the numbers of own tests are below 19
 
@@ -196,12 +192,12 @@ room_high t i (q ∷ qs) (ready_more p x y) d =
 module _ (t : Table) (a b : List Request) where
   -- the own tests of the second part, with the first before it
   abbrev pub after : Reply
-  after = own_tests t (onto [] a) (length a) b
+  after = own_tests t (reverse a) (length a) b
 
   own_both : own_tests t [] 0 (a ++ b) ≡ pick (is_done (own_tests t [] 0 a).outcome) after (own_tests t [] 0 a)
   own_both =
       let z : 0 + length a ≡ length a = omega arith in
-      own_append t [] 0 a b ∙ ap (λ (n : ℕ). pick (is_done (own_tests t [] 0 a).outcome) (own_tests t (onto [] a) n b) (own_tests t [] 0 a)) z
+      own_append t [] 0 a b ∙ ap (λ (n : ℕ). pick (is_done (own_tests t [] 0 a).outcome) (own_tests t (reverse a) n b) (own_tests t [] 0 a)) z
 
   by_reply : Reply → Effect
   by_reply r = pick (is_done r.outcome) (room_tests t 0 (a ++ b)) (refused r.outcome r.place t)

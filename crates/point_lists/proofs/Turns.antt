@@ -1,35 +1,67 @@
--- The fold from the i-th record on: what a turn of the loop does to it. Lists and records alone, nothing of the code.
---     at_end       past the last record it is what it was given
---     at_done      so it is where the state is done
---     at_more      else it is the fold from the next record on, of what the step makes
+-- The own tests from the i-th point of a list on: what one turn of the loop over them does. Lists and definitions alone, nothing of the code.
 -- Assumes nothing.
-use mathlib.Core.Path.{◌≡◌, ◌∙◌, ap}
-use Prim.Native.Nat.{ℕ, suc, ◌+◌, ◌<◌, ◌≤◌}
-use native.Mathlib.Omega.{arith}
-use native.Mathlib.Numerals.{add-one}
-use mathlib.Core.Bool.{Bool, true, false}
-use mathlib.Core.List.{List}
-use lib.ListN.{length, drop}
-use lib.Seq.{drop-cons, drop-length}
-use Rattle.point_lists.specs.Fold.{at, blank, Both, pick, stepped, folded}
-use Rattle.model.specs.declared.Request.{Request as Point}
-use Rattle.point_lists.specs.declared.Later.{Later as State}
+use Rattle.std.proofs.Common.{◌≡◌, ℕ, ◌+◌, ◌<◌, ◌≤◌, suc, Bool, true, false, List, [], ◌∷◌, map, reverse, length, get_or, take, drop, sym, ap, ◌∙◌, arith}
+use Rattle.std.proofs.lemmas.List.{take_more, map-append, reverse-append, drop_all}
+use lib.Seq.{drop-cons}
+use Rattle.limits.specs.Test.{pick}
+use Rattle.limits.specs.Outcome.{Outcome, done, is_done}
+use Rattle.model.specs.declared.Request.{Request}
+use Rattle.std.specs.Prelude.{Option, Some, None}
+use Rattle.table.specs.Table.{Table}
+use Rattle.table.specs.Memory.{well_formed, table_of}
+use Rattle.registry.specs.Effect.{Reply}
+use Rattle.registry.specs.Registry.{batch_fault, own_tests}
+use Rattle.points.specs.Points.{whole, deciding}
+use Rattle.point_lists.specs.Later.{last_first, fault_in, later_fault}
 
-module _ (fs₀ : List Point) (m : List ℕ) (s : State) (ps : List Point) (i : ℕ) where
-  abbrev as_is : Both
-  as_is = record { memory = m; state = s }
+-- The own tests that are left from the i-th point on, all before it having passed.
+abbrev pub left : Table → List Request → ℕ → Reply
+left t ps i = own_tests t (last_first (take i ps)) i (map whole (drop i ps))
 
-  abbrev next : Both
-  next = stepped fs₀ m s (at ps i)
+module _ (t : Table) (ps : List Request) (i : ℕ) (d : Request) where
+  abbrev pub fault : Outcome
+  fault = batch_fault t (last_first (take i ps)) (whole (get_or ps i d))
 
-  pub at_end : i ≤ length ps → (i < length ps → ⊥) → folded fs₀ m s (drop i ps) ≡ as_is
-  unfolding folded
-  at_end le past = ap (λ (j : ℕ). folded fs₀ m s (drop j ps)) (let e : i ≡ length ps = omega (arith, past) in e) ∙ ap (folded fs₀ m s) (drop-length ps)
+  one_more : i < length ps → last_first (take (i + 1) ps) ≡ whole (get_or ps i d) ∷ last_first (take i ps)
+  one_more h =
+      ap last_first (take_more ps i d h) ∙ ap reverse (map-append whole (take i ps) (get_or ps i d ∷ [])) ∙ reverse-append (map whole (take i ps)) (whole (get_or ps i d) ∷ [])
 
-  pub at_done : i < length ps → s.done ≡ true → folded fs₀ m s (drop i ps) ≡ as_is
-  unfolding folded
-  at_done l d = ap (folded fs₀ m s) (drop-cons ps i blank l) ∙ ap (λ (z : Bool). pick z as_is (folded fs₀ next.memory next.state (drop (suc i) ps))) d
+  turn : i < length ps → left t ps i ≡ pick (is_done fault) (left t ps (i + 1)) (record { outcome = fault; place = i })
+  unfolding own_tests
+  turn h =
+      let more = λ (es : List Request) (n : ℕ). pick (is_done fault) (own_tests t es (i + 1) (map whole (drop n ps))) (record { outcome = fault; place = i }) in
+      ap (λ (l : List Request). own_tests t (last_first (take i ps)) i (map whole l)) (drop-cons ps i d h)
+      ∙ ap (λ (n : ℕ). more (whole (get_or ps i d) ∷ last_first (take i ps)) n) (let z : suc i ≡ i + 1 = omega arith in z)
+      ∙ ap (λ (es : List Request). more es (i + 1)) (sym (one_more h))
 
-  pub at_more : i < length ps → s.done ≡ false → folded fs₀ m s (drop i ps) ≡ folded fs₀ next.memory next.state (drop (i + 1) ps)
-  unfolding folded
-  at_more l d = ap (folded fs₀ m s) (drop-cons ps i blank l) ∙ ap (λ (z : Bool). pick z as_is (folded fs₀ next.memory next.state (drop (suc i) ps))) d ∙ rw add-one
+  module _ (o : Outcome) (is : o ≡ fault) (h : i < length ps) where
+    abbrev named : Reply
+    named = record { outcome = o; place = i }
+
+    turn_of : left t ps i ≡ pick (is_done o) (left t ps (i + 1)) named
+    turn_of = turn h ∙ ap (λ (x : Outcome). pick (is_done x) (left t ps (i + 1)) (record { outcome = x; place = i })) (sym is)
+
+    -- A point that passes leaves the tests of the next ones.
+    pub passes : is_done o ≡ true → left t ps i ≡ left t ps (i + 1)
+    passes e = turn_of ∙ ap (λ (b : Bool). pick b (left t ps (i + 1)) named) e
+
+    -- One that does not is named.
+    pub fails : is_done o ≡ false → left t ps i ≡ named
+    fails e = turn_of ∙ ap (λ (b : Bool). pick b (left t ps (i + 1)) named) e
+
+-- Past the last point nothing is left.
+pub ends : (t : Table) (ps : List Request) (i : ℕ) → length ps ≤ i → left t ps i ≡ record { outcome = done; place = 0 }
+unfolding own_tests
+ends t ps i h = ap (λ (l : List Request). own_tests t (last_first (take i ps)) i (map whole l)) (drop_all i ps h)
+
+-- Where there is a table, the fault is the one that the tests name.
+module _ (m : List ℕ) (ps : List Request) (w : well_formed m ≡ true) where
+  told : (r : Reply) → left (table_of m) ps deciding ≡ r → fault_in r ≡ later_fault m ps
+  unfolding later_fault
+  told r e = sym (ap (λ (b : Bool). pick b (fault_in (left (table_of m) ps deciding)) None) w ∙ ap fault_in e)
+
+  pub told_fault : (r : Reply) → left (table_of m) ps deciding ≡ r → is_done r.outcome ≡ false → Some r ≡ later_fault m ps
+  told_fault r e d = sym (ap (λ (b : Bool). pick b None (Some r)) d) ∙ told r e
+
+  pub told_none : left (table_of m) ps deciding ≡ record { outcome = done; place = 0 } → ◌≡◌ {A = Option Reply} None (later_fault m ps)
+  told_none e = told (record { outcome = done; place = 0 }) e

@@ -1,164 +1,64 @@
 // The registration of a batch given as a slice of point records of any length. No more points can be held than a table has places, so the first ones decide on room; but every point is tested before any is given room.
 #![tactic(auto)]
 
-ghost use Rattle.std.specs.Prelude.{◌≡◌, map, true};
-ghost use Rattle.octets.specs.Number.{Octets};
-ghost use Rattle.points.specs.Points.{whole};
+ghost use Rattle.std.specs.Prelude.{◌≡◌, map, true, Option};
+ghost use Rattle.table.specs.Memory.{well_formed, table_of};
+ghost use Rattle.registry.specs.Registry.{batch_fault, registering_all};
 ghost use Rattle.replies.specs.Replies.{Replies};
-ghost use Rattle.registry.specs.Registry.{registering_all};
-ghost use Rattle.point_lists.specs.Later.{with_twice, later_fault, start_of, search_for, passed, judged, answer_of};
-ghost use Rattle.point_lists.specs.Fold.{stepped, folded};
+ghost use Rattle.points.specs.Points.{whole};
+ghost use Rattle.point_lists.specs.Later.{last_first, later_fault, answer_of};
 
-use among::Search;
 use limits::outcome::Outcome;
 use model::Request;
 use points::DECIDING;
 use registry::Reply;
 
-// More points than a slice can have.
-const MANY: usize = 4611686018427387904;
-
-// How many points have been passed, the fault of the one after them, and whether there is no more to test.
-#[derive(Clone, Copy)]
-pub struct Later {
-    pub count: usize,
-    pub outcome: Outcome,
-    pub done: bool,
-}
-
-// A fault of a point that has been tested as if it stood alone, where its address may stand earlier (16).
-fn with_twice(fault: Outcome, found: bool) -> Outcome
-    ensures { result ≡ with_twice fault found }
+// The first of the tests 11 to 17 that a point fails, `earlier` being those that stand before it.
+fn fault_of(m: &[u8], point: Request, earlier: &[Request]) -> Outcome
+    requires { well_formed m.now ≡ true }
+    ensures { result ≡ batch_fault (table_of m.now) (last_first earlier.now) (whole point) }
 {
-    if !found {
-        return fault;
+    let record = points::record_of(point);
+    let alone = batch_tests::own_tests(m, &record, false).outcome;
+    match alone {
+        Outcome::Done | Outcome::AlreadyRegistered => {
+            if among::stands_in(&point, earlier) {
+                return Outcome::AddressTwice;
+            }
+            alone
+        }
+        _ => alone,
     }
-    if fault.is_done() {
-        return Outcome::AddressTwice;
-    }
-    if fault.number() == 17 {
-        return Outcome::AddressTwice;
-    }
-    fault
 }
 
-// The tests 3 and 11 to 17 of a point, `found` being whether its address stands earlier.
-fn later_fault(m: &[u8], p: Request, found: bool) -> Outcome
-    ensures { result ≡ later_fault m.now p found }
+// The first point that fails its own tests, and its fault, of those after the first points, which decide on room.
+#[tactic(auto, unfolding(crate::specs::Later::later_fault))]
+fn later_fault(m: &[u8], points: &[Request]) -> Option<Reply>
+    ensures { result ≡ later_fault m.now points.now }
 {
     if !wellformed::well_formed(m) {
-        return Outcome::TableNotWellFormed;
+        return None;
     }
-    let record = points::record_of(p);
-    let own = batch_tests::own_tests(m, &record, false);
-    let fault = own.outcome;
-    with_twice(fault, found)
+    for i in DECIDING..points.len() {
+        let fault = fault_of(m, points[i], &points[..i]);
+        if !fault.is_done() {
+            return Some(Reply {
+                outcome: fault,
+                place: i,
+            });
+        }
+    }
+    None
 }
 
-// No point passed yet; nothing is tested where the memory, which holds octets, holds no table.
-fn start(m: &mut [u8]) -> Later
-    ensures { (result ≡ start_of m.old) × (m.new ≡ m.old) × Octets m.old }
-{
-    let good = wellformed::well_formed(m);
-    Later {
-        count: 0,
-        outcome: Outcome::Done,
-        done: !good,
-    }
-}
-
-// What is looked for before a point is tested: its address among all that stand before it; nothing for the first points.
-fn search_for(s: Later, p: Request) -> Search
-    ensures { result ≡ search_for s p }
-{
-    let count = s.count;
-    Search {
-        ca: p.ca,
-        ioa: p.ioa,
-        left: count,
-        found: false,
-        done: count < DECIDING,
-    }
-}
-
-// One point passed more.
-fn passed(s: Later) -> Later
-    ensures { result ≡ passed s }
-{
-    let count = s.count;
-    if count < MANY {
-        return Later {
-            count: count + 1,
-            outcome: Outcome::Done,
-            done: false,
-        };
-    }
-    Later {
-        count: count,
-        outcome: Outcome::Done,
-        done: true,
-    }
-}
-
-// A point passes, or its fault is kept; the first points pass untested.
-#[tactic(auto, unfolding(crate::specs::Later::judged))]
-fn judge(m: &mut [u8], s: Later, p: Request, found: Search) -> Later
-    ensures { (result ≡ judged m.old s p found) × (m.new ≡ m.old) }
-{
-    let count = s.count;
-    if count < DECIDING {
-        return passed(s);
-    }
-    let fault = later_fault(m, p, found.found);
-    if fault.is_done() {
-        return passed(s);
-    }
-    Later {
-        count: count,
-        outcome: fault,
-        done: true,
-    }
-}
-
-// Tests a point that stands after the first: its address is looked for among all before it.
-pub fn later_test(m: &mut [u8], all: &[Request], s: Later, p: Request) -> Later
-    ensures { (result ≡ (stepped all.now m.old s p).state) × (m.new ≡ (stepped all.now m.old s p).memory) }
-{
-    let search = search_for(s, p);
-    let found = among::look_through(&mut *m, all, search);
-    judge(m, s, p, found)
-}
-
-// Tests each point of the slice, until one has a fault.
-pub fn later_tests(m: &mut [u8], all: &[Request], points: &[Request], s: Later) -> Later
-    ensures { (result ≡ (folded all.now m.old s points.now).state) × (m.new ≡ (folded all.now m.old s points.now).memory) }
-{
-    let mut t = s;
-    let mut i = 0;
-    while i < points.len() && !t.done {
-        let p = points[i];
-        t = later_test(&mut *m, all, t, p);
-        i += 1;
-    }
-    t
-}
-
-// The reply for the first points, where it is no refusal for room (19, 20); else the first fault of a later point comes before it.
-#[tactic(auto, unfolding(crate::specs::Later::answer_of))]
-fn answer_of(later: Later, first: Reply) -> Reply
+// The reply of the first points; a refusal for room (19, 20) gives way to the fault of a later point.
+#[tactic(auto, using(crate::proofs::Rooms::for_room, crate::proofs::Rooms::not_for_room))]
+fn answer_of(later: Option<Reply>, first: Reply) -> Reply
     ensures { result ≡ answer_of later first }
 {
-    let outcome = first.outcome;
-    if outcome.number() < 19 {
-        return first;
-    }
-    let fault = later.outcome;
-    if fault.is_done() {
-        return first;
-    }
-    Reply {
-        outcome: fault,
-        place: later.count,
+    match first.outcome {
+        Outcome::CeilingReached | Outcome::NotAdmitted => later.unwrap_or(first),
+        _ => first,
     }
 }
 
@@ -166,8 +66,7 @@ fn answer_of(later: Later, first: Reply) -> Reply
 pub fn register_points(table: &mut [u8], points: &[Request]) -> Reply
     ensures { Replies (registering_all (map whole points.now)) table.old result table.new }
 {
-    let begun = start(&mut *table);
-    let later = later_tests(&mut *table, points, points, begun);
+    let later = later_fault(table, points);
     let first = points::register_first(table, points);
     answer_of(later, first)
 }

@@ -21,15 +21,15 @@ fn register(table: &mut [u8], records: &[u8]) -> registry::Reply {
     let n = records.len();
     if n == RECORD {
         let one = model::request_at(records, 0);
-        return forms::register_one(table, [one]);
+        return forms::register_batch(table, [one]);
     }
     if n == THREE_RECORDS {
         let first = model::request_at(records, 0);
         let second = model::request_at(records, 24);
         let third = model::request_at(records, 48);
-        return forms::register_three(table, [first, second, third]);
+        return forms::register_batch(table, [first, second, third]);
     }
-    forms::register_none(table, [])
+    forms::register_batch(table, [])
 }
 
 // Register a batch.

@@ -1,19 +1,16 @@
--- The test for room decides which way: the record laid down, or done. Assumes nothing.
-use mathlib.Core.Path.{ap, ◌∙◌}
-use mathlib.Core.List.{List}
-use Prim.Native.Nat.{ℕ, ◌*◌}
-use borrow.Author.Tests.{lt-ltb, le-ltb}
+-- A turn lays one record more down. Assumes nothing.
+use Rattle.std.proofs.Common.{◌*◌, ◌+◌, ◌∙◌, refl, ap, take, List, ℕ, arith}
 use Rattle.octets.specs.Over.{over}
-use Rattle.points.specs.Fold.{stepped}
+use Rattle.points.specs.Points.{flat_records}
+use Rattle.points.proofs.Records.{laid_more}
 use Rattle.points.proofs.lay_down.Goals as goal
 
-pub returns-then-count-m : goal.returns-then-count-m
-unfolding stepped
-returns-then-count-m c =
-    let a = c.args in
-    let h = lt-ltb _ _ c.if-count-m.true in
-    (simp h, simp h (c.copy_in.ensures ∙ ap (λ (l : List ℕ). over a.m.now (24 * a.s.count) l) c.record_of-octets.ensures))
+pub loop-i-init : goal.loop-i-init
+unfolding flat_records
+loop-i-init c = refl
 
-pub returns : goal.returns
-unfolding stepped
-returns c = (simp (le-ltb _ _ c.if-count-m.false), simp (le-ltb _ _ c.if-count-m.false))
+pub loop-i-preserved : goal.loop-i-preserved
+loop-i-preserved c =
+    let l = c.loop-i in
+    ap (λ (m : List ℕ). take (24 * (l.i + 1)) m) (c.copy_in.ensures ∙ ap (λ (r : List ℕ). over l.records (24 * l.i) r) c.record_of.ensures)
+    ∙ laid_more l.records c.args.points.now l.i _ (omega arith) (omega arith) l.invariant

@@ -1,23 +1,18 @@
--- The records of all that decide have room in the memory that is kept for them. Assumes nothing.
-use Rattle.std.proofs.Common.{◌≡◌, ℕ, List, length, ap, ◌∙◌}
-use lib.ListN.{replicate, length-replicate}
+-- What is laid down in the memory that is kept for the records is the batch of all that decide. Assumes nothing.
+use Rattle.std.proofs.Common.{ℕ, List, take, ◌/◌, ap, ◌∙◌}
+use lib.ListN.{length-replicate}
 use Rattle.model.specs.declared.Request.{Request}
-use Rattle.registry.specs.Effect.{Reply, reply_on, memory_on}
+use Rattle.registry.specs.Effect.{reply_on, memory_on}
 use Rattle.registry.specs.Registry.{registering_all}
-use Rattle.replies.specs.Replies.{Replies}
-use Rattle.points.specs.Points.{deciding_octets, batch_of}
-use Rattle.points.specs.Entry.{Answers}
+use Rattle.points.specs.Points.{deciding_octets, flat_records}
+use Rattle.points.proofs.Records.{laid_batch}
 use Rattle.points.proofs.register_first.Goals as goal
-
--- a memory that is that long is all that matters of it
-by_length : (ts : List ℕ) (ps : List Request) (ms : List ℕ) (p : Reply) (ts' ms' : List ℕ) → length ms ≡ deciding_octets → Answers ts ps ms p ts' ms'
-    → Replies (registering_all (batch_of deciding_octets ps)) ts p ts'
-by_length ts ps ms p ts' ms' n done = (
-  done.0 ∙ ap (λ (k : ℕ). reply_on (registering_all (batch_of k ps)) ts) n,
-  done.1 ∙ ap (λ (k : ℕ). memory_on (registering_all (batch_of k ps)) ts) n,
-)
 
 pub returns : goal.returns
 returns c =
-    let r = c.register_points_in in
-    by_length c.args.table.now c.args.points.now (replicate deciding_octets 0) r.result r.new.table r.new.records (length-replicate {A = ℕ} deciding_octets 0) r.ensures
+    let ps = c.args.points.now in
+    let ts = c.args.table.now in
+    let room = ap (λ (n : ℕ). flat_records (take (n / 24) ps)) (length-replicate {A = ℕ} deciding_octets 0) in
+    let batch = laid_batch _ deciding_octets ps (c.lay_down-count.ensures.laid ∙ room) in
+    let r = c.register_points in
+    (r.ensures.0 ∙ ap (λ (qs : List Request). reply_on (registering_all qs) ts) batch, r.ensures.1 ∙ ap (λ (qs : List Request). memory_on (registering_all qs) ts) batch)
