@@ -3,7 +3,7 @@
 
 ghost use Rattle.std.specs.Prelude.{◌≡◌, ◌+◌, ◌-◌, ◌≤◌, ◌<◌, length, take, drop, replicate};
 ghost use Rattle.octets.specs.Over.{over, shifted, lowered};
-ghost use Rattle.octets.specs.Number.{two, three, four, eight, twelve, pair, triple, zeros};
+ghost use Rattle.octets.specs.Number.{two, three, four, eight, twelve, pair, triple, zeros, number_of, octets_of, power};
 
 // Writes all of `src` into `dst` from `at`.
 #[tactic(auto, using(crate::proofs::Laws::part_over))]
@@ -65,6 +65,24 @@ pub fn wide16(x: u16) -> usize
     ensures { (result ≡ x) × (result < 65536) }
 {
     usize::from(x)
+}
+
+// N octets from `at` as a number, low octet first.
+pub fn number_at<const N: usize>(m: &[u8], at: usize) -> usize
+    requires { (N ≤ 8) × (at + N ≤ length m.now) }
+    ensures { (result ≡ number_of N m.now at) × (result < power N) }
+{
+    let mut octets = [0u8; 8];
+    octets[..N].copy_from_slice(&m[at..at + N]);
+    usize::from_le_bytes(octets)
+}
+
+// Writes a number as N octets from `at`, low octet first.
+pub fn put<const N: usize>(m: &mut [u8], at: usize, v: usize)
+    requires { (N ≤ 8) × (at + N ≤ length m.old) × (v < power N) }
+    ensures { m.new ≡ over m.old at (octets_of N v) }
+{
+    copy_in(&v.to_le_bytes()[..N], m, at);
 }
 
 // Two octets from `at` as a number, low octet first.
