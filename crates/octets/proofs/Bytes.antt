@@ -8,7 +8,7 @@ use native.Mathlib.Nat.{div-lt_iff_lt-mul, mod-eq_of_lt, pow-suc, pow-succ'}
 use lib.ListN.{length, take, drop, get_or, replicate, length-replicate, length-take, length-drop, length-append}
 use lib.Seq.{drop-cons, take_all}
 use Rattle.std.specs.Int.{w64, from_le_bytes, to_le_bytes, bytes_low_first}
-use Rattle.octets.specs.Number.{Octets, number, number_of, number_on, octets_of, octets_on, power}
+use Rattle.octets.specs.Number.{Octets, number, number_of, number_on, octets_of, octets_on, power, twelve}
 
 -- ---- reading
 
@@ -74,6 +74,30 @@ read_part m o at n r xs zs i h e z f =
     f ∙ read_eight (xs ++ zs) l ∙ ap (λ (t : List ℕ). value (xs ++ t)) z ∙ value_padded xs (8 - n) ∙ ap value e ∙ value_at m at n h in
     let q = number_below m o at n in
     (p ∙ sym (number_is m at n), omega arith)
+
+-- ---- octets by value
+
+unfoldable octets_past : List ℕ → ℕ → ℕ → ℕ → List ℕ
+octets_past m at k zero = []
+octets_past m at k (suc n) = get_or m (at + k) 0 ∷ octets_past m at (suc k) n
+
+past_is : (m : List ℕ) (at k n : ℕ) → at + k + n ≤ length m → take n (drop (at + k) m) ≡ octets_past m at k n
+unfolding octets_past
+past_is m at k zero h = refl
+past_is m at k (suc n) h =
+    let i : suc (at + k) ≡ at + suc k = omega arith in
+    ap (take (suc n)) (drop-cons m (at + k) 0 (omega arith))
+    ∙ ap (λ (l : List ℕ). get_or m (at + k) 0 ∷ l) (ap (λ (j : ℕ). take n (drop j m)) i ∙ past_is m at (suc k) n (omega arith))
+
+-- twelve octets copied out
+pub twelve_is : (m xs : List ℕ) (at k : ℕ) → at + 12 ≤ length m → k ≡ 12 → xs ≡ take k (drop at m) → xs ≡ twelve m at
+unfolding octets_past
+twelve_is m xs at k h e f =
+    let i : suc at ≡ at + 1 = omega arith in
+    f
+    ∙ ap (λ (n : ℕ). take n (drop at m)) e
+    ∙ ap (take 12) (drop-cons m at 0 (omega arith))
+    ∙ ap (λ (l : List ℕ). get_or m at 0 ∷ l) (ap (λ (j : ℕ). take 11 (drop j m)) i ∙ past_is m at 1 11 (omega arith))
 
 -- ---- writing
 

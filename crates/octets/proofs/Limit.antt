@@ -25,7 +25,6 @@ number_zero m at (suc n) = go (get_or m at 0) (number m (at + 1) n) (eqb (get_or
     go x y false e = let z : x ≡ 0 → ⊥ = eqb-false x 0 e in ne_eqb (x + 256 * y) 0 (λ t. z (omega arith))
 
 pub power_positive : (e : ℕ) → 0 < power e
-
 power_positive zero = omega arith
 power_positive (suc e) = let z = power_positive e in omega arith
 

@@ -118,24 +118,14 @@ pub fn eight_at(m: &[u8], at: usize) -> usize
 }
 
 // Twelve octets from `at`, by value.
+#[tactic(auto, using(crate::proofs::Bytes::twelve_is))]
 pub fn twelve_at(m: &[u8], at: usize) -> [u8; 12]
     requires { at + 12 ≤ length m.now }
     ensures { result ≡ twelve m.now at }
 {
-    [
-        m[at],
-        m[at + 1],
-        m[at + 2],
-        m[at + 3],
-        m[at + 4],
-        m[at + 5],
-        m[at + 6],
-        m[at + 7],
-        m[at + 8],
-        m[at + 9],
-        m[at + 10],
-        m[at + 11],
-    ]
+    let mut octets = [0; 12];
+    octets.copy_from_slice(&m[at..at + 12]);
+    octets
 }
 
 // A number as two octets.
