@@ -8,7 +8,8 @@ use native.Mathlib.Nat.{div-lt_iff_lt-mul, mod-eq_of_lt, pow-suc, pow-succ'}
 use lib.ListN.{length, take, drop, get_or, replicate, length-replicate, length-take, length-drop, length-append}
 use lib.Seq.{drop-cons, take_all}
 use Rattle.std.specs.Int.{w64, from_le_bytes, to_le_bytes, bytes_low_first}
-use Rattle.octets.specs.Number.{Octets, number, number_of, number_on, octets_of, octets_on, power, twelve}
+use Rattle.octets.specs.Number.{Octets, number, number_of, number_on, octets_of, octets_on, power, twelve, eight}
+use Rattle.octets.proofs.Limit.{eight_number}
 
 -- ---- reading
 
@@ -62,6 +63,9 @@ number_is m at (suc (suc n)) = ap (λ (y : ℕ). get_or m at 0 + 256 * y) (numbe
 
 pub zeros_left : (n : ℕ) → n ≤ 8 → drop n (replicate {A = ℕ} 8 0) ≡ replicate {A = ℕ} (8 - n) 0
 zeros_left n h = drop-replicate {X = ℕ} n 8 0
+
+pub eight_is : (m : List ℕ) (at : ℕ) → number_of 8 m at ≡ eight m at
+eight_is m at = number_is m at 8 ∙ sym (eight_number m at)
 
 -- n octets, with zeros up to eight, as the library reads them
 pub read_part : (m : List ℕ) → Octets m → (at n r : ℕ) (xs zs : List ℕ) → n ≤ 8 → at + n ≤ length m → xs ≡ take n (drop at m) → zs ≡ replicate (8 - n) 0
