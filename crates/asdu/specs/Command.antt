@@ -1,10 +1,10 @@
 -- A command as it is read: document 01's tests in their order, the parts, where the objects lie, and the first object.
 -- Document 01, 'Octets of an ASDU' and 'Numbers given back'.
-use Rattle.std.specs.Prelude.{ℕ, ◌+◌, ◌*◌, List, Bool, true, false, not, length, leb, eqb}
+use Rattle.std.specs.Prelude.{Option, Some, ℕ, ◌+◌, ◌*◌, List, Bool, true, false, not, length, leb, eqb}
 use Rattle.limits.specs.Test.{◌&◌, pick}
 use Rattle.limits.specs.Size.{class_of, element_octets, header_octets, address_octets}
 use Rattle.limits.specs.declared.size.Class.{Class}
-use Rattle.limits.specs.declared.size.Class.TheVariants.{Point, System, Process, EndOfInitialization, Unknown}
+use Rattle.limits.specs.declared.size.Class.TheVariants.{System, Process}
 use Rattle.limits.specs.declared.outcome.Outcome.{Outcome}
 use Rattle.limits.specs.declared.outcome.Outcome.TheVariants.{Done, Silent, Malformed}
 use Rattle.octets.specs.Number.{three}
@@ -17,22 +17,16 @@ use Rattle.asdu.specs.declared.command.FirstObject.{FirstObject}
 use Rattle.asdu.specs.declared.command.FirstObject.TheVariants.{Object, None}
 use Rattle.asdu.specs.Header.{most_octets, kind_in, count_in, sequence_in, cause_in, test_in, originator_in, ca_in}
 
-abbrev pub is_system : Class → Bool
-is_system Point = false
-is_system System = true
-is_system Process = false
-is_system EndOfInitialization = false
-is_system Unknown = false
+abbrev pub is_system : Option Class → Bool
+is_system (Some System) = true
+is_system _ = false
 
-abbrev pub is_process : Class → Bool
-is_process Point = false
-is_process System = false
-is_process Process = true
-is_process EndOfInitialization = false
-is_process Unknown = false
+abbrev pub is_process : Option Class → Bool
+is_process (Some Process) = true
+is_process _ = false
 
 -- Of the two entries that take ASDUs one serves the system types, one the process types.
-abbrev pub serves : Entry → Class → Bool
+abbrev pub serves : Entry → Option Class → Bool
 serves SystemCommands c = is_system c
 serves ProcessCommands c = is_process c
 
