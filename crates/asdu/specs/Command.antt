@@ -9,28 +9,24 @@ use Rattle.limits.specs.declared.outcome.Refusal.{Refusal}
 use Rattle.limits.specs.declared.outcome.Refusal.TheVariants.{Silent, Malformed}
 use Rattle.asdu.specs.declared.command.Unread.{Unread}
 use Rattle.asdu.specs.declared.command.Unread.TheVariants.{LengthOutOfRange, TypeNotServed, ObjectsNotWhole}
+use Rattle.limits.specs.declared.outcome.Outcome.{Outcome}
+use Rattle.limits.specs.declared.outcome.Outcome.TheVariants.{Done, Silent, Malformed}
 use Rattle.octets.specs.Number.{three}
 use Rattle.asdu.specs.declared.command.Entry.{Entry}
 use Rattle.asdu.specs.declared.command.Entry.TheVariants.{SystemCommands, ProcessCommands}
 use Rattle.asdu.specs.declared.command.Command.{Command}
 use Rattle.asdu.specs.Header.{most_octets, kind_in, count_in, sequence_in, cause_in, test_in, originator_in, ca_in}
 
-abbrev pub is_system : Class → Bool
-is_system Point = false
-is_system System = true
-is_system Process = false
-is_system EndOfInitialization = false
-is_system Unknown = false
+abbrev pub is_system : Option Class → Bool
+is_system (Some System) = true
+is_system _ = false
 
-abbrev pub is_process : Class → Bool
-is_process Point = false
-is_process System = false
-is_process Process = true
-is_process EndOfInitialization = false
-is_process Unknown = false
+abbrev pub is_process : Option Class → Bool
+is_process (Some Process) = true
+is_process _ = false
 
 -- Of the two entries that take ASDUs one serves the system types, one the process types.
-abbrev pub serves : Entry → Class → Bool
+abbrev pub serves : Entry → Option Class → Bool
 serves SystemCommands c = is_system c
 serves ProcessCommands c = is_process c
 

@@ -46,24 +46,16 @@ impl From<Unread> for Refusal {
     }
 }
 
-fn is_system(class: Class) -> bool
+fn is_system(class: Option<Class>) -> bool
     ensures { result ≡ is_system class }
 {
-    if let Class::System = class {
-        true
-    } else {
-        false
-    }
+    class == Some(Class::System)
 }
 
-fn is_process(class: Class) -> bool
+fn is_process(class: Option<Class>) -> bool
     ensures { result ≡ is_process class }
 {
-    if let Class::Process = class {
-        true
-    } else {
-        false
-    }
+    class == Some(Class::Process)
 }
 
 // Does the entry serve the type?

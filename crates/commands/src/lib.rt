@@ -41,12 +41,7 @@ fn is_command_cot(cause: u8) -> bool
 fn is_supported_command_type(kind: u8) -> bool
     ensures { result ≡ is_process (class_of kind) }
 {
-    let class = limits::size::class_of(kind);
-    if let Class::Process = class {
-        true
-    } else {
-        false
-    }
+    limits::size::class_of(kind) == Some(Class::Process)
 }
 
 // Is the proposed reply of a process type, and its objects whole and not too many for the length limit?

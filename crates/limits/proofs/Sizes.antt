@@ -3,7 +3,7 @@
 use mathlib.Core.Path.{◌≡◌, refl, sym, ap, subst, ◌∙◌}
 use mathlib.Core.Bool.{Bool, true, false}
 use mathlib.Core.List.{List, [], ◌∷◌, ◌++◌}
-use Prim.Native.Nat.{ℕ, zero, suc, ◌+◌, ◌*◌, ◌-◌, ◌/◌, ◌%◌, ◌≤◌, ◌<◌, min}
+use Prim.Native.Nat.{ℕ, zero, suc, ◌+◌, ◌*◌, ◌-◌, ◌/◌, ◌≤◌, ◌<◌, min}
 use native.Mathlib.Decide.{dec_le}
 use native.Mathlib.Nat.{add-zero, zero-add, add-suc, suc-add, le_of_suc-le-suc, not-suc-le-zero, zero-mul, add-mul, div-zero, div-eq_of_lt, div-mul-le_self, add-div_right, le-div_iff_mul-le, mul-le-mul_right}
 use native.Mathlib.Omega.{arith}
@@ -11,12 +11,13 @@ use lib.Dec.{eqb, leb, ltb}
 use lib.ListN.{length, get_or, set, get_or-eq_default}
 use lib.Seq.{ext_get_or, get_or-set_same, get_or-set_other}
 use borrow.Author.Count.{below_more}
-use borrow.Author.Tests.{eqb-true, eqb-false, leb-true, le-ltb}
+use borrow.Author.Tests.{ne_eqb, eqb-true, leb-true, le-ltb}
+use Rattle.std.specs.Prelude.{Option, Some, None, ◌||◌}
 use Rattle.limits.specs.Test.{◌&◌, pick, total}
 use Rattle.limits.proofs.Tests.{both}
-use Rattle.limits.specs.Size.{Kind, point_types, system_types, process_types, end_types, named_types, listed, octets_in, point_octets, element_octets, class_of, standard_limit, control_octets, header_octets, address_octets, most_objects, run_octets, values_from, point_sizes, class_number, kind_code, kind_codes, point_part}
+use Rattle.limits.specs.Size.{Kind, point_types, system_types, process_types, end_types, named_types, listed, octets_in, point_octets, element_octets, class_of, standard_limit, control_octets, header_octets, address_octets, most_objects, run_octets, values_from, point_sizes}
 use Rattle.limits.specs.declared.size.Class.{Class}
-use Rattle.limits.specs.declared.size.Class.TheVariants.{Point, System, Process, EndOfInitialization, Unknown}
+use Rattle.limits.specs.declared.size.Class.TheVariants.{Point, System, Process, EndOfInitialization}
 
 -- ---- a list of types
 
@@ -173,11 +174,11 @@ one_list k = go (listed named_types k) refl
         simp (u.point, u.system, u.process, u.end) (omega arith)
 
 -- Only a point type is of the class of points.
-pub point_class : (k : ℕ) → class_of k ≡ Point → listed point_types k ≡ true
+pub point_class : (k : ℕ) → class_of k ≡ Some Point → listed point_types k ≡ true
 unfolding class_of
 point_class k = go (listed point_types k) (listed system_types k) (listed process_types k) (listed end_types k)
   where
-    go : (p s c e : Bool) → pick p Point (pick s System (pick c Process (pick e EndOfInitialization Unknown))) ≡ Point → p ≡ true
+    go : (p s c e : Bool) → pick p (Some Point) (pick s (Some System) (pick c (Some Process) (pick e (Some EndOfInitialization) None))) ≡ Some Point → p ≡ true
     go true s c e q = refl
     go false true c e q = cc
     go false false true e q = cc
@@ -185,13 +186,13 @@ point_class k = go (listed point_types k) (listed system_types k) (listed proces
     go false false false false q = cc
 
 -- A point's element octets are those of its type.
-pub point_element : (k : ℕ) → class_of k ≡ Point → element_octets k ≡ point_octets k
+pub point_element : (k : ℕ) → class_of k ≡ Some Point → element_octets k ≡ point_octets k
 unfolding element_octets point_octets named_types
 point_element k h =
     octets_joined point_types (system_types ++ (process_types ++ end_types)) k ∙ simp (point_class k h)
 
 -- Every other type has no point's octets.
-pub no_point : (k : ℕ) → (class_of k ≡ Point → ⊥) → point_octets k ≡ 0
+pub no_point : (k : ℕ) → (class_of k ≡ Some Point → ⊥) → point_octets k ≡ 0
 unfolding point_octets class_of
 no_point k f = go (listed point_types k) refl
   where
@@ -199,56 +200,58 @@ no_point k f = go (listed point_types k) refl
     go true h = absurd (f (simp h))
     go false h = not_listed point_types k h
 
--- ---- the code's table
+-- Read at a type's number, the table gives the type's element octets.
+pub elements_at : (k : ℕ) → k < 108 → get_or (values_from element_octets 0 108) k 0 ≡ element_octets k
+elements_at k h = values_at element_octets 108 k h
 
--- The class of a number of the table.
-abbrev pub class_at : ℕ → Class
-class_at n = pick (eqb n 1) Point (pick (eqb n 2) System (pick (eqb n 3) Process (pick (eqb n 4) EndOfInitialization Unknown)))
+-- No type from 108 on has an element.
+pub element_beyond : (k : ℕ) → 108 ≤ k → element_octets k ≡ 0
+unfolding element_octets named_types point_types system_types process_types end_types ◌&◌
+element_beyond k h = not_listed named_types k (beyond 108 named_types refl k h)
 
-numbered : (c : Class) → class_at (class_number c) ≡ c
+-- ---- classes
+
+-- A class as a number, so that a test over many types is computed.
+unfoldable pub class_number : Option Class → ℕ
+class_number None = 0
+class_number (Some Point) = 1
+class_number (Some System) = 2
+class_number (Some Process) = 3
+class_number (Some EndOfInitialization) = 4
+
+-- The class of a number.
+abbrev pub class_at : ℕ → Option Class
+class_at n = pick (eqb n 1) (Some Point) (pick (eqb n 2) (Some System) (pick (eqb n 3) (Some Process) (pick (eqb n 4) (Some EndOfInitialization) None)))
+
+numbered : (c : Option Class) → class_at (class_number c) ≡ c
 unfolding class_number
-numbered Point = refl
-numbered System = refl
-numbered Process = refl
-numbered EndOfInitialization = refl
-numbered Unknown = refl
+numbered None = refl
+numbered (Some Point) = refl
+numbered (Some System) = refl
+numbered (Some Process) = refl
+numbered (Some EndOfInitialization) = refl
 
--- An entry's high four bits are the class, its low four the element octets.
-pub record Entry (k code : ℕ) : Type 0 where
-  pub high : code / 16 ≡ class_number (class_of k)
-  pub low : code % 16 ≡ element_octets k
+-- The test passes at n numbers from a on.
+abbrev pub every_from : (ℕ → Bool) → ℕ → ℕ → Bool
+every_from f a zero = true
+every_from f a (suc n) = f a & every_from f (suc a) n
 
-pub entry : (k code : ℕ) → code ≡ kind_code k → Entry k code
-unfolding kind_code
-entry k code h =
-    let m : element_octets k ≤ 12 = element_at_most k in
-    record { high = omega arith; low = omega arith }
-
--- What the class's number says of the class.
-pub class_is : (k n : ℕ) → n ≡ class_number (class_of k) → class_at n ≡ class_of k
-class_is k n h = ap class_at h ∙ numbered (class_of k)
-
--- The octets of a point's entry are the point's; any other entry's are no point's.
-pub point_entry : (k code : ℕ) → code ≡ kind_code k → point_part code ≡ point_octets k
-unfolding class_number
-point_entry k code h = go (eqb (code / 16) 1) refl
+from_each : (f : ℕ → Bool) (a n : ℕ) → every_from f a n ≡ true → (k : ℕ) → a ≤ k → k < a + n → f k ≡ true
+from_each f a zero t k h l = absurd (omega arith)
+from_each f a (suc n) t k h l = go (dec_le (suc a) k) (λ m. from_each f (suc a) n (both _ _ t).1 k m (omega arith))
   where
-    go : (b : Bool) → eqb (code / 16) 1 ≡ b → pick b (code % 16) 0 ≡ point_octets k
-    go true q = (entry k code h).low ∙ point_element k (sym (class_is k 1 (sym (eqb-true _ _ q) ∙ (entry k code h).high)))
-    go false q = sym (no_point k (λ p. eqb-false _ _ q ((entry k code h).high ∙ ap class_number p)))
+    go : Dec (suc a ≤ k) → (suc a ≤ k → f k ≡ true) → f k ≡ true
+    go (yes m) g = g m
+    go (no m) g = let e : a ≡ k = omega arith in subst (λ (x : ℕ). f x ≡ true) e (both _ _ t).0
 
--- Read at a type's number, the table gives the type's entry.
-pub codes_at : (k : ℕ) → k < 108 → get_or kind_codes k 0 ≡ kind_code k
-unfolding kind_codes
-codes_at k h = values_at kind_code 108 k h
-
--- No type from 108 on has an entry.
-pub beyond_codes : (k : ℕ) → 108 ≤ k → kind_code k ≡ 0
-unfolding kind_code class_number class_of element_octets named_types point_types system_types process_types end_types ◌&◌
-beyond_codes k h =
-    let b : listed named_types k ≡ false = beyond 108 named_types refl k h in
-    let u = unnamed k b in
-    simp (u.point, u.system, u.process, u.end, not_listed named_types k b)
+-- A computed test over n types from a on is the class of each, but for the type x.
+pub spans : (v x a n : ℕ) → every_from (λ k. eqb k x || eqb (class_number (class_of k)) v) a n ≡ true → (k : ℕ) → a ≤ k → k < a + n → (k ≡ x → ⊥)
+    → class_at v ≡ class_of k
+spans v x a n t k h l f =
+    let p : (eqb k x || eqb (class_number (class_of k)) v) ≡ true = from_each (λ k. eqb k x || eqb (class_number (class_of k)) v) a n t k h l in
+    let q : (false || eqb (class_number (class_of k)) v) ≡ true =
+    subst (λ (b : Bool). (b || eqb (class_number (class_of k)) v) ≡ true) (ne_eqb k x f) p in
+    ap class_at (sym (eqb-true _ _ q)) ∙ numbered (class_of k)
 
 -- ---- packing, over all element sizes and length limits
 

@@ -1,9 +1,9 @@
 -- Sizes: the element octets of every type, the most objects in one ASDU, and the octets of a run of objects.
 -- Document 01, 'Octets of an ASDU'; IEC 60870-5-101, 7.2.1 (types) and 7.3 (elements); IEC 60870-5-104, 5 (253 octets after the length octet).
-use Rattle.std.specs.Prelude.{ℕ, zero, suc, ◌+◌, ◌*◌, ◌-◌, ◌/◌, ◌%◌, min, Bool, true, false, List, [], ◌∷◌, ◌++◌, eqb}
+use Rattle.std.specs.Prelude.{Option, Some, None, ℕ, zero, suc, ◌+◌, ◌*◌, ◌-◌, ◌/◌, min, Bool, true, false, List, [], ◌∷◌, ◌++◌, eqb}
 use Rattle.limits.specs.Test.{pick}
 use Rattle.limits.specs.declared.size.Class.{Class}
-use Rattle.limits.specs.declared.size.Class.TheVariants.{Point, System, Process, EndOfInitialization, Unknown}
+use Rattle.limits.specs.declared.size.Class.TheVariants.{Point, System, Process, EndOfInitialization}
 
 -- A type's number and the octets of its element.
 pub record Kind : Type 0 where
@@ -56,10 +56,11 @@ point_octets n = octets_in point_types n
 unfoldable pub element_octets : ℕ → ℕ
 element_octets n = octets_in named_types n
 
--- What a type is.
-unfoldable pub class_of : ℕ → Class
+-- What a type is; none where no list has it.
+unfoldable pub class_of : ℕ → Option Class
 class_of n =
-    pick (listed point_types n) Point (pick (listed system_types n) System (pick (listed process_types n) Process (pick (listed end_types n) EndOfInitialization Unknown)))
+    pick (listed point_types n) (Some Point)
+    (pick (listed system_types n) (Some System) (pick (listed process_types n) (Some Process) (pick (listed end_types n) (Some EndOfInitialization) None)))
 
 -- The length limit of an APDU, as the standard has it.
 abbrev pub standard_limit : ℕ
@@ -101,25 +102,3 @@ values_from f i (suc n) = f i ∷ values_from f (suc i) n
 -- The point's element octets of types 0 to 40, the last point type.
 unfoldable pub point_sizes : List ℕ
 point_sizes = values_from point_octets 0 41
-
--- ---- as the code reads
-
--- A class as the code's table has it.
-unfoldable pub class_number : Class → ℕ
-class_number Unknown = 0
-class_number Point = 1
-class_number System = 2
-class_number Process = 3
-class_number EndOfInitialization = 4
-
--- A type's entry in the code's table: the class in the high four bits, the element octets in the low four.
-unfoldable pub kind_code : ℕ → ℕ
-kind_code n = 16 * class_number (class_of n) + element_octets n
-
--- The entries of types 0 to 107, the last type that document 01 names.
-unfoldable pub kind_codes : List ℕ
-kind_codes = values_from kind_code 0 108
-
--- The octets of an entry where its class is a point's; else 0.
-abbrev pub point_part : ℕ → ℕ
-point_part code = pick (eqb (code / 16) 1) (code % 16) 0

@@ -20,8 +20,7 @@ impl Share {
         if self.held < self.ceiling {
             return Share {
                 held: self.held + 1,
-                reservation: self.reservation,
-                ceiling: self.ceiling,
+                ..self
             };
         }
         self
@@ -34,8 +33,7 @@ impl Share {
         if 0 < self.held {
             return Share {
                 held: self.held - 1,
-                reservation: self.reservation,
-                ceiling: self.ceiling,
+                ..self
             };
         }
         self

@@ -2,3 +2,4 @@ pub mod Limits
 pub mod Within
 pub mod Requests
 pub mod Groups
+pub mod Placing

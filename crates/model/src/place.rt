@@ -5,64 +5,23 @@ ghost use Rattle.layout.specs.Layout.{place_size};
 ghost use Rattle.model.specs.Place.{place_of};
 
 use crate::Point;
-use layout::PLACE_SIZE;
+use layout::{
+    CA_OFFSET, COUNTER_OFFSET, GROUP_OFFSET, IOA_OFFSET, PLACE_SIZE, REST_OFFSET, VALUE_OFFSET,
+};
 
 // The 48 octets of a point of station ca.
 pub fn place_of(ca: usize, p: Point) -> [u8; PLACE_SIZE]
     requires { (ca < 65536) × (p.ioa < 16777216) }
     ensures { result ≡ place_of ca p }
 {
-    let v = p.value;
-    [
-        p.kind,
-        (ca % 256) as u8,
-        (ca / 256) as u8,
-        (p.ioa % 256) as u8,
-        (p.ioa / 256 % 256) as u8,
-        (p.ioa / 65536) as u8,
-        (p.group % 256) as u8,
-        (p.group / 256) as u8,
-        p.counter,
-        0,
-        v[0],
-        v[1],
-        v[2],
-        v[3],
-        v[4],
-        v[5],
-        v[6],
-        v[7],
-        v[8],
-        v[9],
-        v[10],
-        v[11],
-        0,
-        0,
-        0,
-        0,
-        0,
-        0,
-        0,
-        0,
-        0,
-        0,
-        0,
-        0,
-        0,
-        0,
-        0,
-        0,
-        0,
-        0,
-        0,
-        0,
-        0,
-        0,
-        0,
-        0,
-        0,
-        0,
-    ]
+    let mut place = [0; PLACE_SIZE];
+    place[0] = p.kind;
+    octets::put::<2>(&mut place, CA_OFFSET, ca);
+    octets::put::<3>(&mut place, IOA_OFFSET, p.ioa as usize);
+    octets::put::<2>(&mut place, GROUP_OFFSET, usize::from(p.group));
+    place[COUNTER_OFFSET] = p.counter;
+    place[VALUE_OFFSET..REST_OFFSET].copy_from_slice(&p.value);
+    place
 }
 
 // Writes the place of a point of station ca.

@@ -61,12 +61,10 @@ pub fn place_limits() -> [usize; PLACE_LIMITS]
     let first = FIRST;
     let last = LAST;
     let mut limits = [0usize; PLACE_LIMITS];
-    let mut kind = 0;
-    while kind < TYPES {
-        let size = octets::wide(sizes[kind]);
+    for kind in 0..TYPES {
+        let size = usize::from(sizes[kind]);
         limits[kind] = first[size];
         limits[kind + TYPES] = last[size];
-        kind += 1;
     }
     limits[TOTALS] = COUNTER_LIMIT;
     limits[TIMED_TOTALS] = COUNTER_LIMIT;
@@ -78,8 +76,8 @@ fn spare_zero(m: &[u8], at: usize) -> bool
     requires { at + rest_size ≤ length m.now }
     ensures { result ≡ zeros m.now at rest_size }
 {
-    let low = octets::eight_at(m, at) | octets::eight_at(m, at + 8);
-    let high = octets::eight_at(m, at + 16) | octets::eight_at(m, at + 18);
+    let low = octets::number_at::<8>(m, at) | octets::number_at::<8>(m, at + 8);
+    let high = octets::number_at::<8>(m, at + 16) | octets::number_at::<8>(m, at + 18);
     (low | high) == 0
 }
 
@@ -88,26 +86,26 @@ fn place_ok(m: &[u8], at: usize, ca: usize, low: usize, limits: &[usize; PLACE_L
     requires { (at + place_size ≤ length m.now) × (limits.now ≡ place_limits) }
     ensures { result ≡ place_ok m.now at ca low }
 {
-    let kind = octets::wide(m[at]);
+    let kind = usize::from(m[at]);
     if TYPES <= kind {
         return false;
     }
-    if octets::two_at(m, at + CA_OFFSET) != ca {
+    if octets::number_at::<2>(m, at + CA_OFFSET) != ca {
         return false;
     }
-    if octets::three_at(m, at + IOA_OFFSET) < low {
+    if octets::number_at::<3>(m, at + IOA_OFFSET) < low {
         return false;
     }
-    if GROUP_LIMIT < octets::two_at(m, at + GROUP_OFFSET) {
+    if GROUP_LIMIT < octets::number_at::<2>(m, at + GROUP_OFFSET) {
         return false;
     }
-    if limits[kind + 2 * TYPES] < octets::two_at(m, at + COUNTER_OFFSET) {
+    if limits[kind + 2 * TYPES] < octets::number_at::<2>(m, at + COUNTER_OFFSET) {
         return false;
     }
-    if limits[kind] < octets::eight_at(m, at + VALUE_OFFSET) {
+    if limits[kind] < octets::number_at::<8>(m, at + VALUE_OFFSET) {
         return false;
     }
-    if limits[kind + TYPES] <= octets::four_at(m, at + LAST_FOUR_OFFSET) {
+    if limits[kind + TYPES] <= octets::number_at::<4>(m, at + LAST_FOUR_OFFSET) {
         return false;
     }
     spare_zero(m, at + REST_OFFSET)
@@ -118,16 +116,13 @@ pub fn places_ok(m: &[u8], at: usize, ca: usize, n: usize, limits: &[usize; PLAC
     requires { (at + place_size * n ≤ length m.now) × (limits.now ≡ place_limits) }
     ensures { result ≡ places_ok m.now at ca 0 n }
 {
-    let mut i = at;
     let mut low = 0;
-    let mut left = n;
-    while 0 < left {
-        if !place_ok(m, i, ca, low, limits) {
+    for i in 0..n {
+        let place = at + PLACE_SIZE * i;
+        if !place_ok(m, place, ca, low, limits) {
             return false;
         }
-        low = octets::three_at(m, i + IOA_OFFSET) + 1;
-        i += PLACE_SIZE;
-        left -= 1;
+        low = octets::number_at::<3>(m, place + IOA_OFFSET) + 1;
     }
     true
 }

@@ -3,3 +3,4 @@ pub mod Log
 pub mod At
 pub mod Zero
 pub mod Limit
+pub mod Bytes

@@ -25,7 +25,6 @@ number_zero m at (suc n) = go (get_or m at 0) (number m (at + 1) n) (eqb (get_or
     go x y false e = let z : x ≡ 0 → ⊥ = eqb-false x 0 e in ne_eqb (x + 256 * y) 0 (λ t. z (omega arith))
 
 pub power_positive : (e : ℕ) → 0 < power e
-unfolding power
 power_positive zero = omega arith
 power_positive (suc e) = let z = power_positive e in omega arith
 
@@ -45,7 +44,7 @@ below_step x y p h = go (ltb y p) refl
 
 -- the limit
 pub below_power : (m : List ℕ) → Octets m → (e at n : ℕ) → ltb (number m at n) (power e) ≡ zeros m (at + e) (n - e)
-unfolding number power zeros
+unfolding number zeros
 below_power m o zero at n =
     let i : at ≡ at + 0 = omega arith in
     let k : n ≡ n - 0 = omega arith in

@@ -2,9 +2,11 @@
 use mathlib.Core.Path.{◌≡◌, refl, sym, ap, ◌∙◌}
 use mathlib.Core.List.{List}
 use mathlib.Core.Bool.{Bool, true, false}
-use Prim.Native.Nat.{ℕ, zero, suc, ◌+◌, ◌-◌, ◌≤◌, ◌<◌}
+use Prim.Native.Nat.{ℕ, zero, suc, ◌+◌, ◌≤◌}
 use native.Mathlib.Omega.{arith}
-use lib.ListN.{get_or}
+use lib.ListN.{length, take, drop, get_or}
+use lib.Seq.{drop-cons}
+use Rattle.std.specs.List.{fold}
 use lib.Dec.{eqb}
 use lib.Bits.{bit_or, bit_and, or_add_and, and_le_r}
 use borrow.Author.Tests.{eqb-true, eqb-false, ne_eqb}
@@ -36,18 +38,25 @@ unfolding ◌&◌
 and_true true = refl
 and_true false = refl
 
--- the turn and the end of `all_zero`
-pub any_on : (m : List ℕ) (x i n : ℕ) → 0 < n → (eqb x 0 & zeros m i n) ≡ (eqb (bit_or x (get_or m i 0)) 0 & zeros m (i + 1) (n - 1))
+-- the OR of a number and a run of octets is zero exactly if all of them are
+any_from : (m : List ℕ) (x at n : ℕ) → at + n ≤ length m → eqb (fold bit_or x (take n (drop at m))) 0 ≡ (eqb x 0 & zeros m at n)
 unfolding zeros
-any_on m x i n h =
-    let e : n ≡ suc (n - 1) = omega arith in
-    ap (λ (k : ℕ). eqb x 0 & zeros m i k) e
-    ∙ sym (and_assoc (eqb x 0) (eqb (get_or m i 0) 0) (zeros m (i + 1) (n - 1)))
-    ∙ ap (λ (b : Bool). b & zeros m (i + 1) (n - 1)) (sym (or_zero x (get_or m i 0)))
+any_from m x at zero h = sym (and_true (eqb x 0))
+any_from m x at (suc n) h =
+    let y : ℕ = get_or m at 0 in
+    let i : at + 1 ≡ suc at = omega arith in
+    let p : eqb (fold bit_or (bit_or x y) (take n (drop (suc at) m))) 0 ≡ (eqb (bit_or x y) 0 & zeros m (suc at) n) =
+    any_from m (bit_or x y) (suc at) n (omega arith) in
+    ap (λ (l : List ℕ). eqb (fold bit_or x (take (suc n) l)) 0) (drop-cons m at 0 (omega arith))
+    ∙ p
+    ∙ ap (λ (b : Bool). b & zeros m (suc at) n) (or_zero x y)
+    ∙ and_assoc (eqb x 0) (eqb y 0) (zeros m (suc at) n)
+    ∙ ap (λ (k : ℕ). eqb x 0 & (eqb y 0 & zeros m k n)) (sym i)
 
-pub any_end : (m : List ℕ) (x i n : ℕ) → n ≤ 0 → (eqb x 0 & zeros m i n) ≡ eqb x 0
-unfolding zeros
-any_end m x i n h = let e : n ≡ 0 = omega arith in ap (λ (k : ℕ). eqb x 0 & zeros m i k) e ∙ and_true (eqb x 0)
+-- the same from nothing, as the code counts
+pub any_zero : (m : List ℕ) (x at n k : ℕ) → at + n ≤ length m → k ≡ n → x ≡ fold bit_or 0 (take k (drop at m)) → eqb x 0 ≡ zeros m at n
+unfolding ◌&◌
+any_zero m x at n k h e f = rw (f, e) (any_from m 0 at n h)
 
 -- zeros in two parts, one after the other
 pub zeros_split : (m : List ℕ) (at n k : ℕ) → zeros m at (n + k) ≡ (zeros m at n & zeros m (at + n) k)

@@ -46,7 +46,29 @@ unfoldable pub number : List ℕ → ℕ → ℕ → ℕ
 number m at zero = 0
 number m at (suc n) = get_or m at 0 + 256 * number m (at + 1) n
 
+-- what `number` says of n + 1 octets, of which the first stands k past `at`
+abbrev pub number_on : List ℕ → ℕ → ℕ → ℕ → ℕ
+number_on m at k zero = get_or m (at + k) 0
+number_on m at k (suc n) = get_or m (at + k) 0 + 256 * number_on m at (suc k) n
+
+-- n octets from `at` as a number, written so that it is `two`, `three` and `four` where n is 2, 3 and 4
+abbrev pub number_of : ℕ → List ℕ → ℕ → ℕ
+number_of zero m at = 0
+number_of (suc zero) m at = get_or m at 0
+number_of (suc (suc n)) m at = get_or m at 0 + 256 * number_on m at 1 n
+
+-- n + 1 octets of a number v over p, of which the last takes all that is left
+abbrev pub octets_on : ℕ → ℕ → ℕ → List ℕ
+octets_on v p zero = v / p ∷ []
+octets_on v p (suc n) = v / p % 256 ∷ octets_on v (256 * p) n
+
+-- a number as n octets, written so that it is `pair` and `triple` where n is 2 and 3
+abbrev pub octets_of : ℕ → ℕ → List ℕ
+octets_of zero v = []
+octets_of (suc zero) v = v ∷ []
+octets_of (suc (suc n)) v = v % 256 ∷ octets_on v 256 n
+
 -- 256 to the e: the first number that e octets cannot hold
-unfoldable pub power : ℕ → ℕ
+abbrev pub power : ℕ → ℕ
 power zero = 1
 power (suc e) = 256 * power e

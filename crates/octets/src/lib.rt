@@ -3,30 +3,24 @@
 
 ghost use Rattle.std.specs.Prelude.{◌≡◌, ◌+◌, ◌-◌, ◌≤◌, ◌<◌, length, take, drop, replicate};
 ghost use Rattle.octets.specs.Over.{over, shifted, lowered};
-ghost use Rattle.octets.specs.Number.{two, three, four, eight, twelve, pair, triple, zeros};
+ghost use Rattle.octets.specs.Number.{two, three, four, eight, twelve, pair, triple, zeros, number_of, octets_of, power};
 
 // Writes all of `src` into `dst` from `at`.
+#[tactic(auto, using(crate::proofs::Laws::part_over))]
 pub fn copy_in(src: &[u8], dst: &mut [u8], at: usize)
     requires { at + length src.now ≤ length dst.old }
     ensures { dst.new ≡ over dst.old at src.now }
 {
-    let mut j = 0;
-    while j < src.len() {
-        dst[at + j] = src[j];
-        j += 1;
-    }
+    dst[at..at + src.len()].copy_from_slice(src);
 }
 
 // Moves the octets from `from` up to `to` up by `by`.
+#[tactic(auto, using(crate::proofs::Laws::moved_up))]
 pub fn shift_up(m: &mut [u8], from: usize, to: usize, by: usize)
     requires { (from ≤ to) × (to + by ≤ length m.old) }
     ensures { m.new ≡ shifted m.old from to by }
 {
-    let mut k = to;
-    while from < k {
-        k -= 1;
-        m[k + by] = m[k];
-    }
+    m.copy_within(from..to, from + by);
 }
 
 // Writes the `len` octets of `src` from `from` into `dst` from `at`.
@@ -38,44 +32,57 @@ pub fn copy_part(src: &[u8], from: usize, len: usize, dst: &mut [u8], at: usize)
 }
 
 // Moves the octets from `from + by` up to `to` down by `by`.
+#[tactic(auto, using(crate::proofs::Laws::down_step, crate::proofs::Laws::down_done))]
 pub fn shift_down(m: &mut [u8], from: usize, to: usize, by: usize)
     requires { (from + by ≤ to) × (to ≤ length m.old) }
     ensures { m.new ≡ lowered m.old from to by }
 {
+    // Tried `copy_within`, and it misses speed: of this loop LLVM makes one call of memmove.
     let start = from + by;
-    let n = to - start;
-    let mut j = 0;
-    while j < n {
+    for j in 0..to - start {
         m[from + j] = m[start + j];
-        j += 1;
     }
 }
 
 // Writes zeros from `from` up to `to`.
+#[tactic(auto, using(crate::proofs::Laws::part_cleared))]
 pub fn clear(m: &mut [u8], from: usize, to: usize)
     requires { (from ≤ to) × (to ≤ length m.old) }
     ensures { m.new ≡ over m.old from (replicate (to - from) 0) }
 {
-    let n = to - from;
-    let mut j = 0;
-    while j < n {
-        m[from + j] = 0;
-        j += 1;
-    }
+    m[from..to].fill(0);
 }
 
 // An octet as a number.
 pub fn wide(x: u8) -> usize
     ensures { (result ≡ x) × (result < 256) }
 {
-    x as usize
+    usize::from(x)
 }
 
 // A number of 16 bits in the width that counts and places are reckoned in.
 pub fn wide16(x: u16) -> usize
     ensures { (result ≡ x) × (result < 65536) }
 {
-    x as usize
+    usize::from(x)
+}
+
+// N octets from `at` as a number, low octet first.
+pub fn number_at<const N: usize>(m: &[u8], at: usize) -> usize
+    requires { (N ≤ 8) × (at + N ≤ length m.now) }
+    ensures { (result ≡ number_of N m.now at) × (result < power N) }
+{
+    let mut octets = [0u8; 8];
+    octets[..N].copy_from_slice(&m[at..at + N]);
+    usize::from_le_bytes(octets)
+}
+
+// Writes a number as N octets from `at`, low octet first.
+pub fn put<const N: usize>(m: &mut [u8], at: usize, v: usize)
+    requires { (N ≤ 8) × (at + N ≤ length m.old) × (v < power N) }
+    ensures { m.new ≡ over m.old at (octets_of N v) }
+{
+    copy_in(&v.to_le_bytes()[..N], m, at);
 }
 
 // Two octets from `at` as a number, low octet first.
@@ -111,24 +118,14 @@ pub fn eight_at(m: &[u8], at: usize) -> usize
 }
 
 // Twelve octets from `at`, by value.
+#[tactic(auto, using(crate::proofs::Bytes::twelve_is))]
 pub fn twelve_at(m: &[u8], at: usize) -> [u8; 12]
     requires { at + 12 ≤ length m.now }
     ensures { result ≡ twelve m.now at }
 {
-    [
-        m[at],
-        m[at + 1],
-        m[at + 2],
-        m[at + 3],
-        m[at + 4],
-        m[at + 5],
-        m[at + 6],
-        m[at + 7],
-        m[at + 8],
-        m[at + 9],
-        m[at + 10],
-        m[at + 11],
-    ]
+    let mut octets = [0; 12];
+    octets.copy_from_slice(&m[at..at + 12]);
+    octets
 }
 
 // A number as two octets.
@@ -170,12 +167,5 @@ pub fn all_zero(m: &[u8], at: usize, n: usize) -> bool
     requires { at + n ≤ length m.now }
     ensures { result ≡ zeros m.now at n }
 {
-    let end = at + n;
-    let mut any: u8 = 0;
-    let mut i = at;
-    while i < end {
-        any = any | m[i];
-        i += 1;
-    }
-    any == 0
+    m[at..at + n].iter().fold(0, |any, x| any | *x) == 0
 }

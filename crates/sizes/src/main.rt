@@ -75,13 +75,13 @@ fn run<W: Write>(out: &mut W, element: usize, n: usize) -> io::Result<()>
 }
 
 // A space and the word for a class.
-fn class<W: Write>(out: &mut W, class: Class) -> io::Result<()> {
+fn class<W: Write>(out: &mut W, class: Option<Class>) -> io::Result<()> {
     match class {
-        Class::Point => out.write_all(b" point"),
-        Class::System => out.write_all(b" system"),
-        Class::Process => out.write_all(b" process"),
-        Class::EndOfInitialization => out.write_all(b" end"),
-        Class::Unknown => out.write_all(b" unknown"),
+        Some(Class::Point) => out.write_all(b" point"),
+        Some(Class::System) => out.write_all(b" system"),
+        Some(Class::Process) => out.write_all(b" process"),
+        Some(Class::EndOfInitialization) => out.write_all(b" end"),
+        None => out.write_all(b" unknown"),
     }
 }
 

@@ -1,27 +1,75 @@
--- The high four bits of a type's entry are the number of its class.
-use mathlib.Core.Path.{sym, ◌∙◌}
-use borrow.Author.Rules.{rules}
-use borrow.Author.Tests.{ne_eqb}
-use Rattle.limits.proofs.Sizes.{entry, class_is}
+-- The types of each arm are of its class, one after the other: computed over document 01's lists.
+use mathlib.Core.Path.{refl}
+use native.Mathlib.Omega.{arith}
+use Rattle.limits.specs.Test.{◌&◌}
+use Rattle.limits.specs.Size.{class_of, listed, point_types, system_types, process_types, end_types}
+use Rattle.limits.proofs.Sizes.{spans, class_number}
 use Rattle.limits.proofs.size.class_of.Goals as goal
 
-pub kind_code-class-requires : goal.kind_code-class-requires
-kind_code-class-requires c = search rules
+pub returns-in_default : goal.returns-in_default
+unfolding class_of listed point_types system_types process_types end_types class_number ◌&◌
+returns-in_default c = spans 0 300 0 1 refl c.args.kind (omega arith) (omega arith) (λ e. omega arith)
 
-pub returns-then-class-eq-POINT : goal.returns-then-class-eq-POINT
-returns-then-class-eq-POINT c = class_is _ 1 (sym c.if-class-eq-POINT.true ∙ (entry _ _ c.kind_code-class.ensures).high)
+pub returns-in-1-to-7 : goal.returns-in-1-to-7
+unfolding class_of listed point_types system_types process_types end_types class_number ◌&◌
+returns-in-1-to-7 c = spans 1 300 1 7 refl c.args.kind (omega arith) (omega arith) (λ e. omega arith)
 
-pub returns-then-class-eq-SYSTEM : goal.returns-then-class-eq-SYSTEM
-returns-then-class-eq-SYSTEM c = class_is _ 2 (sym c.if-class-eq-SYSTEM.true ∙ (entry _ _ c.kind_code-class.ensures).high)
+pub returns-in_default-2 : goal.returns-in_default-2
+unfolding class_of listed point_types system_types process_types end_types class_number ◌&◌
+returns-in_default-2 c = spans 0 300 8 1 refl c.args.kind (omega arith) (omega arith) (λ e. omega arith)
 
-pub returns-then-class-eq-PROCESS : goal.returns-then-class-eq-PROCESS
-returns-then-class-eq-PROCESS c = class_is _ 3 (sym c.if-class-eq-PROCESS.true ∙ (entry _ _ c.kind_code-class.ensures).high)
+pub returns-in-1-to-7-2 : goal.returns-in-1-to-7-2
+unfolding class_of listed point_types system_types process_types end_types class_number ◌&◌
+returns-in-1-to-7-2 c = spans 1 300 9 7 refl c.args.kind (omega arith) (omega arith) (λ e. omega arith)
 
-pub returns-then-class-eq-END_OF_INITIALIZATION : goal.returns-then-class-eq-END_OF_INITIALIZATION
-returns-then-class-eq-END_OF_INITIALIZATION c = class_is _ 4 (sym c.if-class-eq-END_OF_INITIALIZATION.true ∙ (entry _ _ c.kind_code-class.ensures).high)
+pub returns-in_default-3 : goal.returns-in_default-3
+unfolding class_of listed point_types system_types process_types end_types class_number ◌&◌
+returns-in_default-3 c = spans 0 300 16 1 refl c.args.kind (omega arith) (omega arith) (λ e. omega arith)
 
-pub returns : goal.returns
-returns c =
-    simp
-    (ne_eqb _ _ c.if-class-eq-END_OF_INITIALIZATION.false, ne_eqb _ _ c.if-class-eq-PROCESS.false, ne_eqb _ _ c.if-class-eq-SYSTEM.false, ne_eqb _ _ c.if-class-eq-POINT.false)
-    at (class_is _ _ (entry _ _ c.kind_code-class.ensures).high)
+pub returns-in-1-to-7-3 : goal.returns-in-1-to-7-3
+unfolding class_of listed point_types system_types process_types end_types class_number ◌&◌
+returns-in-1-to-7-3 c = spans 1 300 17 5 refl c.args.kind (omega arith) (omega arith) (λ e. omega arith)
+
+pub returns-in_default-4 : goal.returns-in_default-4
+unfolding class_of listed point_types system_types process_types end_types class_number ◌&◌
+returns-in_default-4 c = spans 0 300 22 8 refl c.args.kind (omega arith) (omega arith) (λ e. omega arith)
+
+pub returns-in-1-to-7-4 : goal.returns-in-1-to-7-4
+unfolding class_of listed point_types system_types process_types end_types class_number ◌&◌
+returns-in-1-to-7-4 c = spans 1 300 30 11 refl c.args.kind (omega arith) (omega arith) (λ e. omega arith)
+
+pub returns-in_default-5 : goal.returns-in_default-5
+unfolding class_of listed point_types system_types process_types end_types class_number ◌&◌
+returns-in_default-5 c = spans 0 300 41 4 refl c.args.kind (omega arith) (omega arith) (λ e. omega arith)
+
+pub returns-in-45-to-51 : goal.returns-in-45-to-51
+unfolding class_of listed point_types system_types process_types end_types class_number ◌&◌
+returns-in-45-to-51 c = spans 3 300 45 7 refl c.args.kind (omega arith) (omega arith) (λ e. omega arith)
+
+pub returns-in_default-6 : goal.returns-in_default-6
+unfolding class_of listed point_types system_types process_types end_types class_number ◌&◌
+returns-in_default-6 c = spans 0 300 52 6 refl c.args.kind (omega arith) (omega arith) (λ e. omega arith)
+
+pub returns-in-45-to-51-2 : goal.returns-in-45-to-51-2
+unfolding class_of listed point_types system_types process_types end_types class_number ◌&◌
+returns-in-45-to-51-2 c = spans 3 300 58 7 refl c.args.kind (omega arith) (omega arith) (λ e. omega arith)
+
+pub returns-in_default-7 : goal.returns-in_default-7
+unfolding class_of listed point_types system_types process_types end_types class_number ◌&◌
+returns-in_default-7 c = spans 0 70 65 35 refl c.args.kind (omega arith) (omega arith) (λ e. omega arith)
+
+pub returns-in-70 : goal.returns-in-70
+unfolding class_of listed point_types system_types process_types end_types class_number ◌&◌
+returns-in-70 c = spans 4 300 70 1 refl c.args.kind (omega arith) (omega arith) (λ e. omega arith)
+
+pub returns-in-100-to-105-2 : goal.returns-in-100-to-105-2
+unfolding class_of listed point_types system_types process_types end_types class_number ◌&◌
+returns-in-100-to-105-2 c = spans 2 300 100 6 refl c.args.kind (omega arith) (omega arith) (λ e. omega arith)
+
+pub returns-in-100-to-105 : goal.returns-in-100-to-105
+unfolding class_of listed point_types system_types process_types end_types class_number ◌&◌
+returns-in-100-to-105 c = spans 2 300 107 1 refl c.args.kind (omega arith) (omega arith) (λ e. omega arith)
+
+pub returns-in_default-8 : goal.returns-in_default-8
+unfolding class_of listed point_types system_types process_types end_types class_number ◌&◌
+returns-in_default-8 c = spans 0 107 106 150 refl c.args.kind (omega arith) (omega arith) (λ e. omega arith)

@@ -1,20 +1,18 @@
--- The octets of a point's entry are the point's, and every other type has none.
-use mathlib.Core.Path.{◌∙◌}
+-- Only a point type is of the class of points, and its octets are those of its element.
+use mathlib.Core.Path.{sym, ap, ◌∙◌}
+use Rattle.std.specs.Prelude.{Some}
 use borrow.Author.Rules.{rules}
-use native.Mathlib.Omega.{arith}
-use Rattle.limits.proofs.Sizes.{point_entry, point_at_most}
+use Rattle.limits.proofs.Sizes.{point_element, no_point}
 use Rattle.limits.proofs.size.point_octets.Goals as goal
 
-pub kind_code-requires : goal.kind_code-requires
-kind_code-requires c = search rules
+pub returns-in-Some-Point : goal.returns-in-Some-Point
+returns-in-Some-Point c =
+    let e = c.element_octets.ensures in
+    let is = sym c.class_of.ensures ∙ c.in-Some-Point.is ∙ ap Some c.in-Some-Point.field-0-is in
+    (e.0 ∙ point_element c.args.kind is, e.1)
 
-pub point_part-requires : goal.point_part-requires
-point_part-requires c = search rules
+pub returns-in_default : goal.returns-in_default
+returns-in_default c = search (rules, no_point)
 
-pub wide-requires : goal.wide-requires
-wide-requires c = search rules
-
-pub returns : goal.returns
-returns c =
-    let r = c.wide.ensures.0 ∙ c.point_part.ensures ∙ point_entry _ _ c.kind_code.ensures in
-    (r, omega (arith, point_at_most c.args.kind))
+pub returns-in_default-2 : goal.returns-in_default-2
+returns-in_default-2 c = search (rules, no_point)

@@ -4,15 +4,16 @@ use Prim.Native.Nat.{ℕ, ◌+◌, ◌<◌}
 use mathlib.Core.List.{List}
 use lib.ListN.{get_or}
 use Rattle.octets.specs.Number.{Octets}
+use Rattle.octets.proofs.Bytes.{eight_is}
 use Rattle.model.specs.Limits.{place_limits, first_limit, last_limit, counter_limit}
 use Rattle.model.proofs.Limits.{first_at, last_at, counter_at}
 use Rattle.model.proofs.Within.{Within, refused, accepted}
 use native.Mathlib.Omega.{arith}
 use Rattle.model.proofs.places.place_ok.Goals as goal
-use Rattle.model.proofs.places.place_ok.Goals.{After-wide-kind, Else-limits-kind-3}
+use Rattle.model.proofs.places.place_ok.Goals.{After-from-kind, Else-limits-kind-3}
 
 -- the memory's octets
-octets_in : (c : After-wide-kind) → Octets c.args.m.now
+octets_in : (c : After-from-kind) → Octets c.args.m.now
 octets_in c = λ i. omega (arith, c.shared_slice_known-1.given i)
 
 -- the limits of the place's type
@@ -28,48 +29,49 @@ limits_of limits m at kind read same below = (
 -- every test passed
 within_in : (c : Else-limits-kind-3) → Within c.args.m.now c.args.at c.args.ca c.args.low
 within_in c =
-    let limits = limits_of c.args.limits.now c.args.m.now c.args.at c.wide-kind.result c.requires.1 c.wide-kind.ensures.0 (omega arith) in
+    let limits = limits_of c.args.limits.now c.args.m.now c.args.at c.from-kind.result c.requires.1 c.from-kind.ensures (omega arith) in
     record {
       kind = omega arith;
       station = omega arith;
       order = omega arith;
       group = omega arith;
       counter = omega (arith, limits.2);
-      first = omega (arith, limits.0);
+      first = omega (arith, limits.0, eight_is c.args.m.now (c.args.at + 10));
       last = omega (arith, limits.1);
     }
 
 pub returns-then-kind-ge-TYPES : goal.returns-then-kind-ge-TYPES
 returns-then-kind-ge-TYPES c =
-    refused c.args.m.now (octets_in (goal.at.returns-then-kind-ge-TYPES c).After-wide-kind) c.args.at c.args.ca c.args.low (λ w. omega arith)
+    refused c.args.m.now (octets_in (goal.at.returns-then-kind-ge-TYPES c).After-from-kind) c.args.at c.args.ca c.args.low (λ w. omega arith)
 
-pub returns-then-two_at-ca : goal.returns-then-two_at-ca
-returns-then-two_at-ca c =
-    refused c.args.m.now (octets_in (goal.at.returns-then-two_at-ca c).After-wide-kind) c.args.at c.args.ca c.args.low (λ w. omega arith)
+pub returns-then-number_at-ca : goal.returns-then-number_at-ca
+returns-then-number_at-ca c =
+    refused c.args.m.now (octets_in (goal.at.returns-then-number_at-ca c).After-from-kind) c.args.at c.args.ca c.args.low (λ w. omega arith)
 
-pub returns-then-three_at-low : goal.returns-then-three_at-low
-returns-then-three_at-low c =
-    refused c.args.m.now (octets_in (goal.at.returns-then-three_at-low c).After-wide-kind) c.args.at c.args.ca c.args.low (λ w. omega arith)
+pub returns-then-number_at-low : goal.returns-then-number_at-low
+returns-then-number_at-low c =
+    refused c.args.m.now (octets_in (goal.at.returns-then-number_at-low c).After-from-kind) c.args.at c.args.ca c.args.low (λ w. omega arith)
 
-pub returns-then-two_at-gt-GROUP_LIMIT : goal.returns-then-two_at-gt-GROUP_LIMIT
-returns-then-two_at-gt-GROUP_LIMIT c =
-    refused c.args.m.now (octets_in (goal.at.returns-then-two_at-gt-GROUP_LIMIT c).After-wide-kind) c.args.at c.args.ca c.args.low (λ w. omega arith)
+pub returns-then-number_at-gt-GROUP_LIMIT : goal.returns-then-number_at-gt-GROUP_LIMIT
+returns-then-number_at-gt-GROUP_LIMIT c =
+    refused c.args.m.now (octets_in (goal.at.returns-then-number_at-gt-GROUP_LIMIT c).After-from-kind) c.args.at c.args.ca c.args.low (λ w. omega arith)
 
 pub returns-then-limits-kind : goal.returns-then-limits-kind
 returns-then-limits-kind c =
-    let counter = (limits_of c.args.limits.now c.args.m.now c.args.at c.wide-kind.result c.requires.1 c.wide-kind.ensures.0 (omega arith)).2 in
-    refused c.args.m.now (octets_in (goal.at.returns-then-limits-kind c).After-wide-kind) c.args.at c.args.ca c.args.low (λ w. omega arith)
+    let counter = (limits_of c.args.limits.now c.args.m.now c.args.at c.from-kind.result c.requires.1 c.from-kind.ensures (omega arith)).2 in
+    refused c.args.m.now (octets_in (goal.at.returns-then-limits-kind c).After-from-kind) c.args.at c.args.ca c.args.low (λ w. omega arith)
 
 pub returns-then-limits-kind-2 : goal.returns-then-limits-kind-2
 returns-then-limits-kind-2 c =
-    let first = (limits_of c.args.limits.now c.args.m.now c.args.at c.wide-kind.result c.requires.1 c.wide-kind.ensures.0 (omega arith)).0 in
-    refused c.args.m.now (octets_in (goal.at.returns-then-limits-kind-2 c).After-wide-kind) c.args.at c.args.ca c.args.low (λ w. omega arith)
+    let eight = eight_is c.args.m.now (c.args.at + 10) in
+    let first = (limits_of c.args.limits.now c.args.m.now c.args.at c.from-kind.result c.requires.1 c.from-kind.ensures (omega arith)).0 in
+    refused c.args.m.now (octets_in (goal.at.returns-then-limits-kind-2 c).After-from-kind) c.args.at c.args.ca c.args.low (λ w. omega arith)
 
 pub returns-then-limits-kind-3 : goal.returns-then-limits-kind-3
 returns-then-limits-kind-3 c =
-    let last = (limits_of c.args.limits.now c.args.m.now c.args.at c.wide-kind.result c.requires.1 c.wide-kind.ensures.0 (omega arith)).1 in
-    refused c.args.m.now (octets_in (goal.at.returns-then-limits-kind-3 c).After-wide-kind) c.args.at c.args.ca c.args.low (λ w. omega arith)
+    let last = (limits_of c.args.limits.now c.args.m.now c.args.at c.from-kind.result c.requires.1 c.from-kind.ensures (omega arith)).1 in
+    refused c.args.m.now (octets_in (goal.at.returns-then-limits-kind-3 c).After-from-kind) c.args.at c.args.ca c.args.low (λ w. omega arith)
 
 pub returns : goal.returns
 returns c =
-    c.spare_zero.ensures ∙ accepted c.args.m.now (octets_in (goal.at.returns c).After-wide-kind) c.args.at c.args.ca c.args.low (within_in (goal.at.returns c).Else-limits-kind-3)
+    c.spare_zero.ensures ∙ accepted c.args.m.now (octets_in (goal.at.returns c).After-from-kind) c.args.at c.args.ca c.args.low (within_in (goal.at.returns c).Else-limits-kind-3)
