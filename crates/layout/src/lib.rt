@@ -65,7 +65,7 @@ pub const CEILING_OFFSET: usize = 4;
 
 pub const HELD_OFFSET: usize = 6;
 
-// ---- what a head says
+// ---- what a head says: each function names its field; one that took the field's offset would be no plainer, as its callers would then have to name it
 
 // K.
 pub fn capacity_of(m: &[u8]) -> usize
@@ -109,7 +109,7 @@ pub fn station_at(m: &[u8], i: usize) -> usize
     HEAD_SIZE + PLACE_SIZE * capacity_of(m) + STATION_SIZE * i
 }
 
-// ---- what a station says, its octets being at `at`
+// ---- what a station says, its octets being at `at`: each function names its field, as above
 
 // Its CA.
 pub fn ca_at(m: &[u8], at: usize) -> usize
