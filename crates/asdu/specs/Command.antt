@@ -4,13 +4,11 @@ use Rattle.std.specs.Prelude.{ℕ, ◌+◌, ◌*◌, List, Bool, true, false, no
 use Rattle.limits.specs.Test.{◌&◌, pick}
 use Rattle.limits.specs.Size.{class_of, element_octets, header_octets, address_octets}
 use Rattle.limits.specs.declared.size.Class.{Class}
-use Rattle.limits.specs.declared.size.Class.TheVariants.{Point, System, Process, EndOfInitialization, Unknown}
+use Rattle.limits.specs.declared.size.Class.TheVariants.{System, Process}
 use Rattle.limits.specs.declared.outcome.Refusal.{Refusal}
 use Rattle.limits.specs.declared.outcome.Refusal.TheVariants.{Silent, Malformed}
 use Rattle.asdu.specs.declared.command.Unread.{Unread}
 use Rattle.asdu.specs.declared.command.Unread.TheVariants.{LengthOutOfRange, TypeNotServed, ObjectsNotWhole}
-use Rattle.limits.specs.declared.outcome.Outcome.{Outcome}
-use Rattle.limits.specs.declared.outcome.Outcome.TheVariants.{Done, Silent, Malformed}
 use Rattle.octets.specs.Number.{three}
 use Rattle.asdu.specs.declared.command.Entry.{Entry}
 use Rattle.asdu.specs.declared.command.Entry.TheVariants.{SystemCommands, ProcessCommands}

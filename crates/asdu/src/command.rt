@@ -106,7 +106,7 @@ fn command_in(asdu: &[u8]) -> Command
         cause: asdu[2] % 64,
         test: 128 <= asdu[2],
         originator: asdu[3],
-        ca: octets::two_at(asdu, 4) as u16,
+        ca: octets::number_at::<2>(asdu, 4) as u16,
         element: limits::size::element_octets(asdu[0]),
     }
 }
@@ -136,7 +136,7 @@ pub fn first_object(command: Command, asdu: &[u8]) -> Option<(usize, usize)>
         return None;
     }
     Some((
-        octets::three_at(asdu, HEADER_OCTETS),
+        octets::number_at::<3>(asdu, HEADER_OCTETS),
         HEADER_OCTETS + ADDRESS_OCTETS,
     ))
 }

@@ -30,8 +30,8 @@ fn raise_held(m: &mut [u8], taken: &[u16; MOST_STATIONS], at: usize, n: usize)
 {
     for i in 0..n {
         let to = at + STATION_SIZE * i + HELD_OFFSET;
-        let held = octets::two_at(m, to);
-        octets::put_two(m, to, held + usize::from(taken[i]));
+        let held = octets::number_at::<2>(m, to);
+        octets::put::<2>(m, to, held + usize::from(taken[i]));
     }
 }
 
@@ -46,7 +46,7 @@ fn store_all(m: &mut [u8], records: &[u8], taken: &[u16; MOST_STATIONS], numbers
     let count = records.len() / RECORD_OCTETS;
     merging::merge(m, records, numbers, count, n);
     raise_held(m, taken, HEAD_SIZE + PLACE_SIZE * k, stations);
-    octets::put_two(m, POINTS_OFFSET, n + count);
+    octets::put::<2>(m, POINTS_OFFSET, n + count);
 }
 
 // Registers a batch of points, given as flat records: 3, then 11 to 17 of each in list order, then 19 and 20; all or none.

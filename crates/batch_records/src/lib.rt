@@ -16,10 +16,10 @@ fn has_address(records: &[u8], at: usize, ca: usize, ioa: usize) -> bool
     requires { at + record_octets ≤ length records.now }
     ensures { result ≡ has_address records.now at ca ioa }
 {
-    if octets::two_at(records, at) != ca {
+    if octets::number_at::<2>(records, at) != ca {
         return false;
     }
-    octets::four_at(records, at + IOA_IN_RECORD) == ioa
+    octets::number_at::<4>(records, at + IOA_IN_RECORD) == ioa
 }
 
 // Does the address stand in one of the first n records?

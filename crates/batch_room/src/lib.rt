@@ -105,7 +105,7 @@ fn turns(
     let mut free_now = free;
     let mut unmet_now = unmet;
     for i in 0..n {
-        let ca = octets::two_at(records, RECORD_OCTETS * i);
+        let ca = octets::number_at::<2>(records, RECORD_OCTETS * i);
         let standing = turn(m, taken, ca, free_now, unmet_now);
         if let Err(refusal) = standing.outcome {
             return Err(Fault {

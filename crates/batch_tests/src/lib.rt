@@ -41,8 +41,8 @@ fn flag_at(records: &[u8], at: usize) -> usize
     requires { at + record_octets ≤ length records.now }
     ensures { (result ≡ flag_at records.now at) × (result < flag_count) }
 {
-    let ca = octets::two_at(records, at);
-    let ioa = octets::four_at(records, at + IOA_IN_RECORD);
+    let ca = octets::number_at::<2>(records, at);
+    let ioa = octets::number_at::<4>(records, at + IOA_IN_RECORD);
     flag_of(ca, ioa)
 }
 
@@ -74,8 +74,8 @@ fn fault_at(m: &[u8], records: &[u8], i: usize, flag: u8) -> Result<(), Refusal>
 {
     let at = RECORD_OCTETS * i;
     let request = model::request_at(records, at);
-    let ca = octets::two_at(records, at);
-    let ioa = octets::four_at(records, at + IOA_IN_RECORD);
+    let ca = octets::number_at::<2>(records, at);
+    let ioa = octets::number_at::<4>(records, at + IOA_IN_RECORD);
     let Some(seat) = lookup::seat_at(m, ca) else {
         return model::own_fault(false, request);
     };

@@ -33,7 +33,7 @@ fn station_common_address(m: &[u8], at: usize, n: usize) -> usize
     for i in 0..n {
         let station = at + STATION_SIZE * i;
         if layout::held_at(m, station) != 0 {
-            return octets::two_at(m, station);
+            return octets::number_at::<2>(m, station);
         }
     }
     0

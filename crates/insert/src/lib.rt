@@ -28,6 +28,6 @@ pub fn insert(m: &mut [u8], ca: usize, p: Point, i: usize, h: usize, at: usize)
     let station = layout::station_at(m, i);
     let n = layout::points_of(m);
     put_in(m, at, HEAD_SIZE + PLACE_SIZE * n, ca, p);
-    octets::put_two(m, station + HELD_OFFSET, h + 1);
-    octets::put_two(m, POINTS_OFFSET, n + 1);
+    octets::put::<2>(m, station + HELD_OFFSET, h + 1);
+    octets::put::<2>(m, POINTS_OFFSET, n + 1);
 }

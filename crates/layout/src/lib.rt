@@ -72,7 +72,7 @@ pub fn capacity_of(m: &[u8]) -> usize
     requires { head_size ≤ length m.now }
     ensures { (result ≡ capacity_in m.now) × (result < 65536) }
 {
-    octets::two_at(m, CAPACITY_OFFSET)
+    octets::number_at::<2>(m, CAPACITY_OFFSET)
 }
 
 // The number of stations.
@@ -80,7 +80,7 @@ pub fn stations_of(m: &[u8]) -> usize
     requires { head_size ≤ length m.now }
     ensures { (result ≡ stations_in m.now) × (result < 65536) }
 {
-    octets::two_at(m, STATIONS_OFFSET)
+    octets::number_at::<2>(m, STATIONS_OFFSET)
 }
 
 // The number of points.
@@ -88,7 +88,7 @@ pub fn points_of(m: &[u8]) -> usize
     requires { head_size ≤ length m.now }
     ensures { (result ≡ points_in m.now) × (result < 65536) }
 {
-    octets::two_at(m, POINTS_OFFSET)
+    octets::number_at::<2>(m, POINTS_OFFSET)
 }
 
 // The octets of the table.
@@ -116,7 +116,7 @@ pub fn ca_at(m: &[u8], at: usize) -> usize
     requires { at + station_size ≤ length m.now }
     ensures { (result ≡ ca_at m.now at) × (result < 65536) }
 {
-    octets::two_at(m, at)
+    octets::number_at::<2>(m, at)
 }
 
 // Its reservation.
@@ -124,7 +124,7 @@ pub fn reservation_at(m: &[u8], at: usize) -> usize
     requires { at + station_size ≤ length m.now }
     ensures { (result ≡ reservation_at m.now at) × (result < 65536) }
 {
-    octets::two_at(m, at + RESERVATION_OFFSET)
+    octets::number_at::<2>(m, at + RESERVATION_OFFSET)
 }
 
 // Its ceiling.
@@ -132,7 +132,7 @@ pub fn ceiling_at(m: &[u8], at: usize) -> usize
     requires { at + station_size ≤ length m.now }
     ensures { (result ≡ ceiling_at m.now at) × (result < 65536) }
 {
-    octets::two_at(m, at + CEILING_OFFSET)
+    octets::number_at::<2>(m, at + CEILING_OFFSET)
 }
 
 // Its held.
@@ -140,5 +140,5 @@ pub fn held_at(m: &[u8], at: usize) -> usize
     requires { at + station_size ≤ length m.now }
     ensures { (result ≡ held_at m.now at) × (result < 65536) }
 {
-    octets::two_at(m, at + HELD_OFFSET)
+    octets::number_at::<2>(m, at + HELD_OFFSET)
 }

@@ -63,7 +63,7 @@ fn seek(m: &[u8], first: usize, n: usize, ioa: usize) -> usize
     let mut high = n;
     while low < high {
         let middle = (low + high) / 2;
-        if octets::three_at(m, first + PLACE_SIZE * middle + IOA_OFFSET) < ioa {
+        if octets::number_at::<3>(m, first + PLACE_SIZE * middle + IOA_OFFSET) < ioa {
             low = middle + 1;
         } else {
             high = middle;
@@ -84,7 +84,7 @@ pub fn find(m: &[u8], first: usize, n: usize, ioa: usize) -> Result<usize, usize
     if j == n {
         return Err(at);
     }
-    if octets::three_at(m, at + IOA_OFFSET) == ioa {
+    if octets::number_at::<3>(m, at + IOA_OFFSET) == ioa {
         return Ok(at);
     }
     Err(at)

@@ -20,8 +20,8 @@ pub fn request_at(records: &[u8], at: usize) -> Request
     requires { at + record_size ≤ length records.now }
     ensures { result ≡ request_at records.now at }
 {
-    let ca = octets::two_at(records, at) as u16;
-    let ioa = octets::four_at(records, at + 2) as u32;
+    let ca = octets::number_at::<2>(records, at) as u16;
+    let ioa = octets::number_at::<4>(records, at + 2) as u32;
     let kind = records[at + 6];
     let group = given_group(records[at + 7], records[at + 8]);
     let counter = given_group(records[at + 9], records[at + 10]);

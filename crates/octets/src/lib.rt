@@ -3,7 +3,7 @@
 
 ghost use Rattle.std.specs.Prelude.{◌≡◌, ◌+◌, ◌-◌, ◌≤◌, ◌<◌, length, take, drop, replicate};
 ghost use Rattle.octets.specs.Over.{over, shifted, lowered};
-ghost use Rattle.octets.specs.Number.{two, three, four, eight, twelve, pair, triple, zeros, number_of, octets_of, power};
+ghost use Rattle.octets.specs.Number.{twelve, zeros, number_of, octets_of, power};
 
 // Writes all of `src` into `dst` from `at`.
 #[tactic(auto, using(crate::proofs::Laws::part_over))]
@@ -85,38 +85,6 @@ pub fn put<const N: usize>(m: &mut [u8], at: usize, v: usize)
     copy_in(&v.to_le_bytes()[..N], m, at);
 }
 
-// Two octets from `at` as a number, low octet first.
-pub fn two_at(m: &[u8], at: usize) -> usize
-    requires { at + 2 ≤ length m.now }
-    ensures { (result ≡ two m.now at) × (result < 65536) }
-{
-    wide(m[at]) + 256 * wide(m[at + 1])
-}
-
-// Three octets from `at` as a number, low octet first.
-pub fn three_at(m: &[u8], at: usize) -> usize
-    requires { at + 3 ≤ length m.now }
-    ensures { (result ≡ three m.now at) × (result < 16777216) }
-{
-    wide(m[at]) + 256 * (wide(m[at + 1]) + 256 * wide(m[at + 2]))
-}
-
-// Four octets from `at` as a number, low octet first.
-pub fn four_at(m: &[u8], at: usize) -> usize
-    requires { at + 4 ≤ length m.now }
-    ensures { (result ≡ four m.now at) × (result < 4294967296) }
-{
-    wide(m[at]) + 256 * (wide(m[at + 1]) + 256 * (wide(m[at + 2]) + 256 * wide(m[at + 3])))
-}
-
-// Eight octets from `at` as a number, low octet first.
-pub fn eight_at(m: &[u8], at: usize) -> usize
-    requires { at + 8 ≤ length m.now }
-    ensures { result ≡ eight m.now at }
-{
-    four_at(m, at) + 4294967296 * four_at(m, at + 4)
-}
-
 // Twelve octets from `at`, by value.
 #[tactic(auto, using(crate::proofs::Bytes::twelve_is))]
 pub fn twelve_at(m: &[u8], at: usize) -> [u8; 12]
@@ -126,40 +94,6 @@ pub fn twelve_at(m: &[u8], at: usize) -> [u8; 12]
     let mut octets = [0; 12];
     octets.copy_from_slice(&m[at..at + 12]);
     octets
-}
-
-// A number as two octets.
-pub fn pair_of(v: usize) -> [u8; 2]
-    requires { v < 65536 }
-    ensures { result ≡ pair v }
-{
-    [(v % 256) as u8, (v / 256) as u8]
-}
-
-// A number as three octets.
-pub fn triple_of(v: usize) -> [u8; 3]
-    requires { v < 16777216 }
-    ensures { result ≡ triple v }
-{
-    [(v % 256) as u8, (v / 256 % 256) as u8, (v / 65536) as u8]
-}
-
-// Writes a number as two octets from `at`.
-pub fn put_two(m: &mut [u8], at: usize, v: usize)
-    requires { (at + 2 ≤ length m.old) × (v < 65536) }
-    ensures { m.new ≡ over m.old at (pair v) }
-{
-    let octets = pair_of(v);
-    copy_in(&octets, m, at);
-}
-
-// Writes a number as three octets from `at`.
-pub fn put_three(m: &mut [u8], at: usize, v: usize)
-    requires { (at + 3 ≤ length m.old) × (v < 16777216) }
-    ensures { m.new ≡ over m.old at (triple v) }
-{
-    let octets = triple_of(v);
-    copy_in(&octets, m, at);
 }
 
 // Are the n octets from `at` zero? All are looked at, so that the loop is one OR over the part.

@@ -35,7 +35,7 @@ pub fn read_octets(m: &[u8], first: usize, h: usize, command: Command, asdu: &[u
 {
     let mut octets = 0;
     for i in 0..usize::from(command.count) {
-        let ioa = octets::three_at(asdu, HEADER_OCTETS + ADDRESS_OCTETS * i);
+        let ioa = octets::number_at::<3>(asdu, HEADER_OCTETS + ADDRESS_OCTETS * i);
         octets += found_octets(m, first, h, ioa)?;
     }
     Some(octets)
@@ -77,7 +77,7 @@ pub fn put_requested(
 {
     let mut o = from;
     for i in 0..usize::from(command.count) {
-        let ioa = octets::three_at(asdu, HEADER_OCTETS + ADDRESS_OCTETS * i);
+        let ioa = octets::number_at::<3>(asdu, HEADER_OCTETS + ADDRESS_OCTETS * i);
         o = put_found(out, o, m, first, h, ioa, command.ca);
     }
     o

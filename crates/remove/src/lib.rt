@@ -26,8 +26,8 @@ pub fn take_out(m: &mut [u8], i: usize, h: usize, at: usize)
     let station = layout::station_at(m, i);
     let n = layout::points_of(m);
     close_up(m, at, HEAD_SIZE + PLACE_SIZE * n);
-    octets::put_two(m, station + HELD_OFFSET, h - 1);
-    octets::put_two(m, POINTS_OFFSET, n - 1);
+    octets::put::<2>(m, station + HELD_OFFSET, h - 1);
+    octets::put::<2>(m, POINTS_OFFSET, n - 1);
 }
 
 // The held of each of the n stations from `at` becomes 0.
@@ -37,7 +37,7 @@ fn none_held(m: &mut [u8], at: usize, n: usize)
     ensures { m.new ≡ none_held m.old at n }
 {
     for i in 0..n {
-        octets::put_two(m, at + STATION_SIZE * i + HELD_OFFSET, 0);
+        octets::put::<2>(m, at + STATION_SIZE * i + HELD_OFFSET, 0);
     }
 }
 
@@ -52,6 +52,6 @@ pub fn take_all_out(m: &mut [u8]) -> usize
     let n = layout::points_of(m);
     octets::clear(m, HEAD_SIZE, HEAD_SIZE + PLACE_SIZE * n);
     none_held(m, HEAD_SIZE + PLACE_SIZE * k, stations);
-    octets::put_two(m, POINTS_OFFSET, 0);
+    octets::put::<2>(m, POINTS_OFFSET, 0);
     n
 }

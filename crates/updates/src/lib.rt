@@ -30,8 +30,8 @@ fn can_apply_update(m: &[u8], updates: &[u8], at: usize) -> Option<usize>
     requires { UpdateIn m.now updates.now at }
     ensures { result ≡ target_at m.now (update_at updates.now at) }
 {
-    let ca = octets::two_at(updates, at);
-    let ioa = octets::three_at(updates, at + UPDATE_IOA_OFFSET);
+    let ca = octets::number_at::<2>(updates, at);
+    let ioa = octets::number_at::<3>(updates, at + UPDATE_IOA_OFFSET);
     let seat = lookup::seat_at(m, ca)?;
     let place = lookup::find(m, seat.first, seat.held, ioa).ok()?;
     if m[place] != updates[at + UPDATE_TYPE_OFFSET] {
@@ -88,7 +88,7 @@ fn apply_one(m: &mut [u8], updates: &[u8], at: usize, out: &mut [u8], o: usize) 
         return o;
     };
     let kind = updates[at + UPDATE_TYPE_OFFSET];
-    let ca = octets::two_at(updates, at) as u16;
+    let ca = octets::number_at::<2>(updates, at) as u16;
     store(m, place, updates, at + UPDATE_VALUE_OFFSET, kind);
     single::put_single(out, o, cot::SPONTANEOUS_DATA, ca, m, place)
 }

@@ -23,7 +23,7 @@ fn mark_ok(m: &[u8]) -> bool
     requires { head_size ≤ length m.now }
     ensures { result ≡ mark_at m.now }
 {
-    octets::four_at(m, 0) == MARK
+    octets::number_at::<4>(m, 0) == MARK
 }
 
 // The settings. Today there are none, and their octets are zero.

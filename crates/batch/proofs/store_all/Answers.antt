@@ -78,8 +78,8 @@ overflow_add-n c =
     let free = z.free in
     omega arith
 
-pub put_two-requires : goal.put_two-requires
-put_two-requires c =
+pub put-requires : goal.put-requires
+put-requires c =
     let a = c.args in
     let p = c.requires in
     let z = storable a.m.now _ _ (λ j. omega (arith, c.slice_known-1.given j)) p.0 p.1 in
@@ -105,4 +105,4 @@ returns c =
     let x = c.merge in
     let new : c.merge.new.m ≡ all_merged m r = x.ensures ∙ (λ j. merged m r (s j) (e8 j)) in
     let up = c.raise_held.ensures ∙ (λ j. raised (new j) a.taken.now 0 (after_places (e4 j)) (e6 j)) in
-    c.put_two.ensures ∙ (λ j. over (up j) points_offset (pair (e8 j + records_in r))) ∙ z.memory
+    c.put.ensures ∙ (λ j. over (up j) points_offset (pair (e8 j + records_in r))) ∙ z.memory

@@ -10,14 +10,14 @@ use Rattle.batch_room.proofs.turns.Goals as goal
 pub loop-i-init : goal.loop-i-init
 loop-i-init c = (run_start _ _ _ _ _ 0 _, taken_start _ _ _ _ _ 0 _, omega arith)
 
-pub two_at-ca-requires : goal.two_at-ca-requires
-two_at-ca-requires c = omega arith
+pub number_at-ca-requires : goal.number_at-ca-requires
+number_at-ca-requires c = omega arith
 
 pub returns-in-Err : goal.returns-in-Err
 returns-in-Err c =
     let a = c.args in
     let l = c.loop-i in
-    let k = c.two_at-ca.ensures.0 in
+    let k = c.number_at-ca.ensures.0 in
     let t = c.turn-standing in
     let s = t.ensures.0 ∙ ap (λ (x : ℕ). standing_at a.m.now l.taken (seat_at a.m.now x) c.loop-i.free_now c.loop-i.unmet_now) k in
     let u = t.ensures.1 ∙ ap (λ (x : ℕ). taken_at a.m.now l.taken (seat_at a.m.now x) c.loop-i.free_now c.loop-i.unmet_now) k in
@@ -30,7 +30,7 @@ pub loop-i-preserved : goal.loop-i-preserved
 loop-i-preserved c =
     let a = c.args in
     let l = c.loop-i in
-    let k = c.two_at-ca.ensures.0 in
+    let k = c.number_at-ca.ensures.0 in
     let t = c.turn-standing in
     let s = t.ensures.0 ∙ ap (λ (x : ℕ). standing_at a.m.now l.taken (seat_at a.m.now x) c.loop-i.free_now c.loop-i.unmet_now) k in
     let u = t.ensures.1 ∙ ap (λ (x : ℕ). taken_at a.m.now l.taken (seat_at a.m.now x) c.loop-i.free_now c.loop-i.unmet_now) k in

@@ -27,7 +27,7 @@ seen : (c : In-Some) →
 seen c =
     let m = c.args.m.now in
     let o : Octets m = λ j. omega (arith, c.shared_slice_known-1.given j) in
-    seat_law m _ _ _ _ o c.requires.0 (ap (seat_at m) (sym c.two_at-ca.ensures.0) ∙ sym c.seat_at.ensures ∙ c.in-Some.is)
+    seat_law m _ _ _ _ o c.requires.0 (ap (seat_at m) (sym c.number_at-ca.ensures.0) ∙ sym c.seat_at.ensures ∙ c.in-Some.is)
 
 -- the tests of the record alone
 own_done : (c : In_ok-own_fault) → is_done (own_fault true (request_at c.args.records.now (24 * c.args.i))) ≡ true
@@ -38,14 +38,14 @@ stands : (c : After-stands_flagged) →
     stands_in (request_at c.args.records.now (24 * c.args.i)) (earlier_at c.args.records.now c.args.i) ≡ c.stands_flagged.result
 stands c =
     let r = c.args.records.now in
-    stands_law r (request_at c.args.records.now (24 * c.args.i)) c.args.i ∙ ap₂ (λ (x y : ℕ). stands_before r x y c.args.i) (sym c.two_at-ca.ensures.0) (sym c.four_at-ioa.ensures.0) ∙ sym c.stands_flagged.ensures
+    stands_law r (request_at c.args.records.now (24 * c.args.i)) c.args.i ∙ ap₂ (λ (x y : ℕ). stands_before r x y c.args.i) (sym c.number_at-ca.ensures.0) (sym c.number_at-ioa.ensures.0) ∙ sym c.stands_flagged.ensures
 
 -- whether the station holds its address
 holds : (c : After-is_held) (z : Seen c.args.m.now (request_at c.args.records.now (24 * c.args.i)).ca c.in-Some.seat.index c.in-Some.seat.first c.in-Some.seat.held) →
     known (request_at c.args.records.now (24 * c.args.i)).ioa z.seat.s.points ≡ c.is_held.result
 holds c z =
     sym (held_known c.args.m.now _ _ _ _ (request_at c.args.records.now (24 * c.args.i)).ioa z)
-    ∙ ap (λ (x : ℕ). is_ok (find_at c.args.m.now c.in-Some.seat.first c.in-Some.seat.held x)) (sym c.four_at-ioa.ensures.0) ∙ sym c.is_held.ensures
+    ∙ ap (λ (x : ℕ). is_ok (find_at c.args.m.now c.in-Some.seat.first c.in-Some.seat.held x)) (sym c.number_at-ioa.ensures.0) ∙ sym c.is_held.ensures
 
 pub seat_at-requires : goal.seat_at-requires
 seat_at-requires c =
@@ -56,7 +56,7 @@ pub returns-in_default : goal.returns-in_default
 returns-in_default c =
     let m = c.args.m.now in
     let q = (request_at c.args.records.now (24 * c.args.i)) in
-    let none-there : seat_at m q.ca ≡ None = ap (seat_at m) (sym c.two_at-ca.ensures.0) ∙ sym c.seat_at.ensures ∙ c.in_default.is in
+    let none-there : seat_at m q.ca ≡ None = ap (seat_at m) (sym c.number_at-ca.ensures.0) ∙ sym c.seat_at.ensures ∙ c.in_default.is in
     c.own_fault.ensures ∙ ap (own_fault false) c.request_at-request.ensures ∙ fault_unplanned (table_of m) (earlier_at c.args.records.now c.args.i) q (absent_law m q.ca none-there)
 
 pub returns-in_err-own_fault : goal.returns-in_err-own_fault
@@ -68,7 +68,7 @@ returns-in_err-own_fault c =
 
 pub stands_flagged-requires : goal.stands_flagged-requires
 stands_flagged-requires c =
-    (omega arith, λ f. ap₂ (λ (x y : ℕ). stands_before c.args.records.now x y c.args.i) c.two_at-ca.ensures.0 c.four_at-ioa.ensures.0 ∙ c.requires.2 f)
+    (omega arith, λ f. ap₂ (λ (x y : ℕ). stands_before c.args.records.now x y c.args.i) c.number_at-ca.ensures.0 c.number_at-ioa.ensures.0 ∙ c.requires.2 f)
 
 pub returns-then-stands_flagged : goal.returns-then-stands_flagged
 returns-then-stands_flagged c =

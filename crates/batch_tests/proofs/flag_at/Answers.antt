@@ -7,4 +7,4 @@ pub returns : goal.returns
 unfolding flag_at
 returns c =
     let f = c.flag_of.ensures in
-    (f.0 ∙ ap₂ address_flag c.two_at-ca.ensures.0 c.four_at-ioa.ensures.0, f.1)
+    (f.0 ∙ ap₂ address_flag c.number_at-ca.ensures.0 c.number_at-ioa.ensures.0, f.1)

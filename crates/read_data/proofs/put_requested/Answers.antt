@@ -6,7 +6,7 @@ pub put_found-o-requires : goal.put_found-o-requires
 put_found-o-requires c =
     let a = c.args in
     let l = c.loop-i in
-    let i = c.three_at-ioa.ensures.0 in
+    let i = c.number_at-ioa.ensures.0 in
     let f = next_fits a.m.now a.first a.h a.command.ca a.asdu.now a.out.now _ l.out 6 a.command.count l.i a.from l.o l.invariant c.requires.fits (omega arith) in
     (omega arith, rw i f)
 
@@ -15,7 +15,7 @@ loop-i-preserved c =
     let a = c.args in
     let l = c.loop-i in
     next_in a.m.now a.first a.h a.command.ca a.asdu.now a.out.now _ l.out 6 a.command.count l.i a.from l.o l.invariant c.requires.fits (omega arith)
-    _ _ _ c.three_at-ioa.ensures.0 c.put_found-o.ensures
+    _ _ _ c.number_at-ioa.ensures.0 c.put_found-o.ensures
 
 pub returns : goal.returns
 returns c =

@@ -11,7 +11,7 @@ returns-in_err-octets c =
     let a = c.args in
     let m = a.m.now in
     let l = c.loop-i in
-    let e = sym c.in_err-octets.was ∙ c.found_octets.ensures ∙ ap (λ (x : ℕ). asked_of m (find_at m a.first a.h x)) c.three_at-ioa.ensures.0 in
+    let e = sym c.in_err-octets.was ∙ c.found_octets.ensures ∙ ap (λ (x : ℕ). asked_of m (find_at m a.first a.h x)) c.number_at-ioa.ensures.0 in
     c.from_residual.ensures ∙ sym (l.invariant.0 ∙ asked_missing m a.first a.h a.asdu.now 6 a.command.count l.i (omega arith) l.octets e)
 
 pub overflow_add-octets : goal.overflow_add-octets
@@ -27,7 +27,7 @@ loop-i-preserved c =
     let l = c.loop-i in
     let k = sym c.in_ok-octets.was ∙ c.found_octets.ensures in
     let s = asked_small m _ _ k in
-    let e = k ∙ ap (λ (x : ℕ). asked_of m (find_at m a.first a.h x)) c.three_at-ioa.ensures.0 in
+    let e = k ∙ ap (λ (x : ℕ). asked_of m (find_at m a.first a.h x)) c.number_at-ioa.ensures.0 in
     (l.invariant.0 ∙ asked_on m a.first a.h a.asdu.now 6 a.command.count l.i (omega arith) l.octets _ e, omega arith)
 
 pub returns : goal.returns

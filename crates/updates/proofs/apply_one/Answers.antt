@@ -28,9 +28,9 @@ inside : (c : In-Some) → c.in-Some.place + 48 ≤ length c.args.m.now
 inside c = place_inside c.args.m.now c.args.updates.now c.args.at (λ j. omega (arith, c.slice_known-1.given j)) c.requires.0.0 c.in-Some.place (found c)
 
 -- what is told of the point that stands there now
-told : (c : After-store) → asdu_octets (single spontaneous c.two_at-ca.result (point_at c.store.new.m c.in-Some.place)) ≡ told_one c.args.m.now c.args.updates.now c.args.at
+told : (c : After-store) → asdu_octets (single spontaneous c.number_at-ca.result (point_at c.store.new.m c.in-Some.place)) ≡ told_one c.args.m.now c.args.updates.now c.args.at
 told c =
-    (λ j. asdu_octets (single spontaneous (c.two_at-ca.ensures.0 j) (point_at (c.store.ensures j) c.in-Some.place)))
+    (λ j. asdu_octets (single spontaneous (c.number_at-ca.ensures.0 j) (point_at (c.store.ensures j) c.in-Some.place)))
     ∙ place_told c.args.m.now c.args.updates.now c.args.at (λ j. omega (arith, c.slice_known-1.given j)) c.requires.0.0 c.in-Some.place (sym c.can_apply_update.ensures ∙ c.in-Some.is) c.requires.0.1
 
 pub returns-in_default : goal.returns-in_default

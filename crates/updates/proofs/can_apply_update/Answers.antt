@@ -13,11 +13,11 @@ use Rattle.updates.proofs.can_apply_update.Goals.{In_ok-seat, In_ok-place}
 
 -- the seat that was found, and the place
 seat_found : (c : In_ok-seat) → seat_at c.args.m.now (two c.args.updates.now c.args.at) ≡ Some c.in_ok-seat.seat
-seat_found c = ap (seat_at c.args.m.now) (sym c.two_at-ca.ensures.0) ∙ sym c.seat_at.ensures ∙ c.in_ok-seat.was
+seat_found c = ap (seat_at c.args.m.now) (sym c.number_at-ca.ensures.0) ∙ sym c.seat_at.ensures ∙ c.in_ok-seat.was
 
 place_found : (c : In_ok-place) → find_at c.args.m.now c.in_ok-seat.seat.first c.in_ok-seat.seat.held (three c.args.updates.now (c.args.at + 2)) ≡ Ok c.in_ok-place.place
 place_found c =
-    ap (find_at c.args.m.now c.in_ok-seat.seat.first c.in_ok-seat.seat.held) (sym c.three_at-ioa.ensures.0) ∙ sym c.find.ensures ∙ found_place c.find.result _ c.in_ok-place.ensures.value
+    ap (find_at c.args.m.now c.in_ok-seat.seat.first c.in_ok-seat.seat.held) (sym c.number_at-ioa.ensures.0) ∙ sym c.find.ensures ∙ found_place c.find.result _ c.in_ok-place.ensures.value
 
 pub seat_at-requires : goal.seat_at-requires
 seat_at-requires c = table_bounds c.args.m.now c.requires.0
@@ -29,7 +29,7 @@ find-requires c =
 pub returns-in_err-place : goal.returns-in_err-place
 returns-in_err-place c =
     let a = c.args in
-    let f = c.find.ensures ∙ ap (find_at a.m.now c.in_ok-seat.seat.first c.in_ok-seat.seat.held) c.three_at-ioa.ensures.0 in
+    let f = c.find.ensures ∙ ap (find_at a.m.now c.in_ok-seat.seat.first c.in_ok-seat.seat.held) c.number_at-ioa.ensures.0 in
     c.from_residual-in_err-place.ensures
     ∙ target_missing a.m.now (update_at a.updates.now a.at) c.in_ok-seat.seat (seat_found (goal.at.returns-in_err-place c).In_ok-seat) c.find.result f c.in_err-place.ensures.value
 

@@ -8,5 +8,5 @@ returns-then-command-eq0 c = simp (eq-eqb _ _ c.if-command-eq0.true)
 
 pub returns : goal.returns
 returns c =
-    let e = c.three_at.ensures.0 in
+    let e = c.number_at.ensures.0 in
     rw (ne_eqb _ _ c.if-command-eq0.false) (λ j. Some (e j, 9))
