@@ -17,10 +17,7 @@ use layout::{
     HEAD_SIZE, HELD_OFFSET, MOST_PLACES, MOST_STATIONS, PLACE_SIZE, POINTS_OFFSET, STATION_SIZE,
 };
 use limits::outcome::Refusal;
-use octets::wide16;
 use registry::Fault;
-use limits::outcome::Outcome;
-use registry::Reply;
 
 // Adds to what each of the n stations from `at` holds what it took in.
 #[tactic(auto, using(crate::proofs::Raised::raise_on, crate::proofs::Raised::raise_fits, crate::proofs::Raised::raisable_on, crate::proofs::Raised::raise_end, octets::proofs::Laws::length_over))]
