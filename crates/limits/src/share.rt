@@ -56,10 +56,7 @@ impl Share {
         if self.held >= self.ceiling {
             return Err(Refusal::CeilingReached);
         }
-        if self.held < self.reservation {
-            return Ok(());
-        }
-        if unmet < free {
+        if self.held < self.reservation || unmet < free {
             return Ok(());
         }
         Err(Refusal::NotAdmitted)
