@@ -5,7 +5,7 @@ ghost use Rattle.limits.specs.Share.{taken_in, let_go, unmet_of, admission_of};
 use crate::outcome::Refusal;
 
 // How many points a station holds, how many are kept for it, and how many it may hold.
-#[derive(Clone, Copy)]
+#[derive(Clone, Copy, Debug, PartialEq, Eq)]
 pub struct Share {
     pub held: usize,
     pub reservation: usize,

@@ -9,4 +9,4 @@ pub returns : goal.returns
 unfolding room_at station_share_at
 returns c =
     c.admission.ensures
-    ∙ ap (λ (s : StationShare). admission_of (record { held = s.held; reservation = s.reservation; ceiling = s.ceiling }) s.free s.unmet) c.share_here-here.ensures
+    ∙ ap (λ (s : StationShare). admission_of s.share s.free s.unmet) c.share_here-here.ensures

@@ -12,6 +12,6 @@ unfolding station_share_at
 returns c =
     let m = c.args.m.now in
     let k = c.capacity_of-k.ensures.0 in
-    let s = c.share_at-share.ensures.0 ∙ (λ j. share_at m (c.station_at-station.ensures j)) in
+    let s = c.share_at.ensures.0 ∙ (λ j. share_at m (c.station_at-station.ensures j)) in
     let u = c.add_up-sums.ensures.2 ∙ (λ j. sum_at unmet_at m (after_places (k j)) (c.stations_of-n.ensures.0 j)) in
-    λ j. record { reservation = (s j).reservation; ceiling = (s j).ceiling; held = (s j).held; free = k j - c.points_of-points.ensures.0 j; unmet = u j }
+    λ j. record { share = s j; free = k j - c.points_of-points.ensures.0 j; unmet = u j }
