@@ -40,13 +40,11 @@ impl Share {
     }
 
     // What is still kept for the station: never below zero.
+    #[tactic(auto, using(crate::proofs::Shares::unmet_is))]
     pub fn unmet(self) -> usize
         ensures { result ≡ unmet_of self }
     {
-        if self.held < self.reservation {
-            return self.reservation - self.held;
-        }
-        0
+        self.reservation.saturating_sub(self.held)
     }
 
     // The share rule: one more point of this station may come in, with `free` places left and `unmet` kept for all stations, or has no room.
