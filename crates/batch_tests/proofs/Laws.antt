@@ -8,8 +8,8 @@ use Prim.Native.Nat.{ℕ, ◌+◌, ◌*◌, ◌-◌, ◌/◌, ◌≤◌, ◌<◌
 use native.Mathlib.Omega.{arith}
 use lib.ListN.{length}
 use Rattle.limits.specs.Test.{pick}
-use Rattle.std.specs.Prelude.{Err}
 use Rattle.limits.specs.Outcome.{Outcome, done, is_done}
+use Rattle.limits.specs.declared.outcome.Refusal.{Refusal}
 use Rattle.limits.specs.declared.outcome.Refusal.TheVariants.{AddressTwice, AlreadyRegistered}
 use Rattle.model.specs.declared.Request.{Request}
 use Rattle.model.specs.Request.{own_fault, request_at, requests_at}
@@ -81,7 +81,7 @@ held_known m ca i first h ioa w =
 
 module _ (t : Table) (m : List ℕ) (i n : ℕ) where
   -- The record of place i passes.
-  pub own_on : i < n → is_done (batch_fault t (earlier_at m i) (request_at m (24 * i))) ≡ true
+  pub own_on : i < n → batch_fault t (earlier_at m i) (request_at m (24 * i)) ≡ done
       → own_tests t (earlier_at m i) i (requests_at m (24 * i) (n - i)) ≡ own_tests t (earlier_at m (i + 1)) (i + 1) (requests_at m (24 * (i + 1)) (n - (i + 1)))
   unfolding own_tests
   own_on h d =
@@ -89,10 +89,10 @@ module _ (t : Table) (m : List ℕ) (i n : ℕ) where
       ∙ ap (λ (e : List Request). own_tests t e (i + 1) (requests_at m (24 * (i + 1)) (n - (i + 1)))) (sym (earlier_on m i))
 
   -- It does not.
-  pub own_stop : i < n → is_done (batch_fault t (earlier_at m i) (request_at m (24 * i))) ≡ false
-      → own_tests t (earlier_at m i) i (requests_at m (24 * i) (n - i)) ≡ record { outcome = batch_fault t (earlier_at m i) (request_at m (24 * i)); place = i }
+  pub own_stop : i < n → (f : Refusal) → batch_fault t (earlier_at m i) (request_at m (24 * i)) ≡ Err f
+      → own_tests t (earlier_at m i) i (requests_at m (24 * i) (n - i)) ≡ record { outcome = Err f; place = i }
   unfolding own_tests
-  own_stop h d = ap (own_tests t (earlier_at m i) i) (requests_on m i n h) ∙ simp d
+  own_stop h f d = ap (own_tests t (earlier_at m i) i) (requests_on m i n h) ∙ simp d
 
   -- None is left.
   pub own_end : n ≤ i → own_tests t (earlier_at m i) i (requests_at m (24 * i) (n - i)) ≡ record { outcome = done; place = 0 }

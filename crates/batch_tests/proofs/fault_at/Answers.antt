@@ -10,7 +10,6 @@ use Rattle.octets.specs.Number.{Octets}
 use Rattle.model.specs.Request.{own_fault, request_at}
 use Rattle.table.specs.Memory.{table_of}
 use Rattle.table.specs.Change.{known}
-use Rattle.table.proofs.Parse.{passed}
 use Rattle.lookup.specs.Seats.{seat_at}
 use Rattle.lookup.specs.Find.{find_at}
 use Rattle.lookup.proofs.Laws.{Seen, seat_law, absent_law}
@@ -47,11 +46,6 @@ holds c z =
     sym (held_known c.args.m.now _ _ _ _ (request_at c.args.records.now (24 * c.args.i)).ioa z)
     ∙ ap (λ (x : ℕ). is_ok (find_at c.args.m.now c.in-Some.seat.first c.in-Some.seat.held x)) (sym c.number_at-ioa.ensures.0) ∙ sym c.is_held.ensures
 
-pub seat_at-requires : goal.seat_at-requires
-seat_at-requires c =
-    let p = (passed c.args.m.now c.requires.0).top in
-    (p.s_high, p.room)
-
 pub returns-in_default : goal.returns-in_default
 returns-in_default c =
     let m = c.args.m.now in
@@ -75,14 +69,6 @@ returns-then-stands_flagged c =
     let z = seen (goal.at.returns-then-stands_flagged c).In-Some in
     let s = z.seat in
     fault_twice (table_of c.args.m.now) (earlier_at c.args.records.now c.args.i) (request_at c.args.records.now (24 * c.args.i)) s.s s.is_station (own_done (goal.at.returns-then-stands_flagged c).In_ok-own_fault) (stands (goal.at.returns-then-stands_flagged c).After-stands_flagged ∙ c.if-stands_flagged.true)
-
-pub is_held-requires : goal.is_held-requires
-is_held-requires c =
-    let p = passed c.args.m.now c.requires.0 in
-    let few = p.few in
-    let room = p.top.room in
-    let places = (seen (goal.at.is_held-requires c).In-Some).places in
-    omega arith
 
 pub returns-then-is_held : goal.returns-then-is_held
 returns-then-is_held c =
