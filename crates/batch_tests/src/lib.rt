@@ -61,10 +61,9 @@ fn fault_at(m: &[u8], records: &[u8], i: usize, flag: bool) -> Result<(), Refusa
     requires { (well_formed m.now ≡ true) × (record_octets * i + record_octets ≤ length records.now) × (flag ≡ false → comes_again records.now i ≡ false) }
     ensures { result ≡ batch_fault (table_of m.now) (earlier_at records.now i) (request_at records.now (record_octets * i)) }
 {
-    let at = RECORD_OCTETS * i;
-    let request = model::request_at(records, at);
-    let ca = octets::number_at::<2>(records, at);
-    let ioa = octets::number_at::<4>(records, at + IOA_IN_RECORD);
+    let request = model::request_at(records, RECORD_OCTETS * i);
+    let ca = usize::from(request.ca);
+    let ioa = request.ioa as usize;
     let Some(seat) = lookup::seat_at(m, ca) else {
         return model::own_fault(false, request);
     };
