@@ -23,7 +23,13 @@ use limits::size::{ADDRESS_OCTETS, HEADER_OCTETS};
 // ---- read
 
 // The echo of all objects, negative where an address is missing; else one ASDU for each object, in the command's order.
-fn handle_read(answer: &mut [u8], table: &[u8], command: Command, asdu: &[u8]) -> Result<Written, Refusal>
+#[tactic(auto, using(lookup::proofs::Laws::seats_readable, lookup::proofs::Laws::places_readable))]
+fn handle_read(
+    answer: &mut [u8],
+    table: &[u8],
+    command: Command,
+    asdu: &[u8],
+) -> Result<Written, Refusal>
     requires { (well_formed table.now ≡ true) × (0 < command.count) × (command.count ≤ count_limit) × (command.element ≡ 0) × (length asdu.now ≡ object_at 0 command.count) }
     ensures { Sends (read_answer command asdu.now (points_read command asdu.now (table_of table.now))) answer.old (answered result) answer.new }
 {
