@@ -86,5 +86,5 @@ module _ (m : List ℕ) (w : well_formed m ≡ true) (ca : ℕ) where
       let s = station_share m o w ca seat.index seat.first seat.held e in
       let f = free_is m o w ca seat.index seat.first seat.held e in
       let u = unmet_is m o w ca seat.index seat.first seat.held e in
-      (λ j. Ok record { reservation = (s j).reservation; ceiling = (s j).ceiling; held = (s j).held; free = f j; unmet = u j })
+      (λ j. Ok record { share = s j; free = f j; unmet = u j })
       ∙ sym (ap (share_from ca) (parse_some m w) ∙ ap (share_in (table_of m)) z.seat.is_station)

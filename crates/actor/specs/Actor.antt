@@ -31,9 +31,7 @@ room_at m i = admission_of (share_here m i) (free_in m) (unmet_in m)
 unfoldable pub station_share_at : List ℕ → ℕ → StationShare
 station_share_at m i =
     record {
-      reservation = (share_here m i).reservation;
-      ceiling = (share_here m i).ceiling;
-      held = (share_here m i).held;
+      share = share_here m i;
       free = free_in m;
       unmet = unmet_in m;
     }

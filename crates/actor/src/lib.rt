@@ -11,7 +11,6 @@ ghost use Rattle.actor.specs.Actor.{HasStation, room_at, station_share_at};
 
 use layout::{HEAD_SIZE, PLACE_SIZE};
 use limits::outcome::Refusal;
-use limits::share::Share;
 use lookup::Seat;
 use model::Request;
 use registry::StationShare;
@@ -27,11 +26,8 @@ fn share_here(m: &[u8], i: usize) -> StationShare
     let points = layout::points_of(m);
     let sums = wellformed::add_up(m, HEAD_SIZE + PLACE_SIZE * k, n);
     let station = layout::station_at(m, i);
-    let share = wellformed::share_at(m, station);
     StationShare {
-        reservation: share.reservation,
-        ceiling: share.ceiling,
-        held: share.held,
+        share: wellformed::share_at(m, station),
         free: k - points,
         unmet: sums.unmet,
     }
@@ -44,12 +40,7 @@ fn room_at(m: &[u8], i: usize) -> Result<(), Refusal>
     ensures { result ≡ room_at m.now i }
 {
     let here = share_here(m, i);
-    let share = Share {
-        held: here.held,
-        reservation: here.reservation,
-        ceiling: here.ceiling,
-    };
-    share.admission(here.free, here.unmet)
+    here.share.admission(here.free, here.unmet)
 }
 
 // Registers a point of a planned station, whose seat was found in a well-formed table.

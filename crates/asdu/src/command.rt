@@ -90,7 +90,7 @@ fn has_whole_objects(asdu: &[u8]) -> bool
     if 128 <= asdu[1] {
         return false;
     }
-    let count = octets::wide(asdu[1] % 128);
+    let count = usize::from(asdu[1] % 128);
     let element = limits::size::element_octets(asdu[0]);
     asdu.len() == HEADER_OCTETS + count * (ADDRESS_OCTETS + element)
 }

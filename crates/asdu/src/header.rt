@@ -22,26 +22,14 @@ pub struct Header {
     pub ca: u16,
 }
 
-// What a flag adds to its octet.
-fn flag(set: bool, worth: u8) -> u8
-    ensures { (result ≡ pick set worth 0) × (result ≤ worth) }
-{
-    if set { worth } else { 0 }
-}
-
 // A header as its six octets.
 fn header_octets(h: Header) -> [u8; 6]
     requires { h.cause < 64 }
     ensures { result ≡ header h }
 {
-    [
-        h.kind,
-        h.count,
-        h.cause + (flag(h.negative, 64) + flag(h.test, 128)),
-        h.originator,
-        (h.ca % 256) as u8,
-        (h.ca / 256) as u8,
-    ]
+    let [low, high] = h.ca.to_le_bytes();
+    let flags = 64 * u8::from(h.negative) + 128 * u8::from(h.test);
+    [h.kind, h.count, h.cause + flags, h.originator, low, high]
 }
 
 // Writes a header at the front of `out`.

@@ -3,7 +3,7 @@
 
 ghost use Rattle.std.specs.Prelude.{◌≡◌, length};
 ghost use Rattle.answers.specs.Said.{answered};
-ghost use Rattle.clock.specs.Clock.{clock_of, fresh_clock, flag_of, with_flag, Answers};
+ghost use Rattle.clock.specs.Clock.{clock_of, fresh_clock, with_flag, Answers};
 
 use answers::Written;
 use limits::outcome::Refusal;
@@ -32,40 +32,23 @@ pub fn fresh_clock() -> Clock
     }
 }
 
-// The known flag as an octet.
-fn flag_of(known: bool) -> u8
-    ensures { result ≡ flag_of known }
-{
-    if known {
-        return 1;
-    }
-    0
-}
-
 // Time and flag as eight octets.
 pub fn octets_of(time: [u8; 7], known: bool) -> [u8; 8]
     ensures { (result ≡ with_flag time known) × (length result ≡ 8) }
 {
-    [
-        time[0],
-        time[1],
-        time[2],
-        time[3],
-        time[4],
-        time[5],
-        time[6],
-        flag_of(known),
-    ]
+    let mut flat = [u8::from(known); 8];
+    flat[..7].copy_from_slice(&time);
+    flat
 }
 
 // The clock of eight octets.
 pub fn clock_of(flat: [u8; 8]) -> Clock
     ensures { (result ≡ clock_of flat) × (length flat ≡ 8) }
 {
+    let mut octets = [0; 7];
+    octets.copy_from_slice(&flat[..7]);
     Clock {
-        octets: [
-            flat[0], flat[1], flat[2], flat[3], flat[4], flat[5], flat[6],
-        ],
+        octets,
         known: flat[7] != 0,
     }
 }

@@ -16,11 +16,8 @@ use answers::Written;
 use asdu::command::{Command, Entry};
 use asdu::cot;
 use limits::outcome::Refusal;
-use limits::size::{ADDRESS_OCTETS, CONTROL_OCTETS, Class, HEADER_OCTETS};
+use limits::size::{ADDRESS_OCTETS, BEFORE_OBJECTS, Class, HEADER_OCTETS};
 use updates::UPDATE_OCTETS;
-
-// The octets of an APDU before its first object.
-const BEFORE_OBJECTS: usize = CONTROL_OCTETS + HEADER_OCTETS;
 
 // ---- tests
 
@@ -28,13 +25,7 @@ const BEFORE_OBJECTS: usize = CONTROL_OCTETS + HEADER_OCTETS;
 fn is_command_cot(cause: u8) -> bool
     ensures { result ≡ process_cause_taken cause }
 {
-    if cause == cot::REQUEST {
-        return true;
-    }
-    if cause == cot::ACTIVATION {
-        return true;
-    }
-    cause == cot::DEACTIVATION
+    matches!(cause, cot::REQUEST | cot::ACTIVATION | cot::DEACTIVATION)
 }
 
 // Is the type a process command's?

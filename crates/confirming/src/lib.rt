@@ -37,7 +37,12 @@ pub fn deny(answer: &mut [u8], command: Command, asdu: &[u8]) -> Result<Written,
 }
 
 // The confirmation that echoes all objects.
-pub fn echo(answer: &mut [u8], command: Command, asdu: &[u8], negative: bool) -> Result<Written, Refusal>
+pub fn echo(
+    answer: &mut [u8],
+    command: Command,
+    asdu: &[u8],
+    negative: bool,
+) -> Result<Written, Refusal>
     requires { length asdu.now ≡ object_at command.element command.count }
     ensures { Sends (echoed command asdu.now negative ∷ []) answer.old (answered result) answer.new }
 {

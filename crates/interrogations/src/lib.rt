@@ -13,9 +13,9 @@ ghost use Rattle.confirming.specs.Sending.{HasFirst};
 ghost use Rattle.interrogations.specs.Interrogations.{CauseOf, HasQualifier};
 
 use answers::Written;
-use limits::outcome::Refusal;
 use asdu::command::Command;
 use asdu::cot;
+use limits::outcome::Refusal;
 use limits::size::{ADDRESS_OCTETS, HEADER_OCTETS};
 use model::{M_IT_NA_1, M_IT_TB_1};
 use report::Selection;
@@ -129,7 +129,12 @@ pub fn handle_interrogation(
 // ---- counters
 
 // Actions 2 and 3 of a counter interrogation set what was reported to 0; 0 and 1, and a choice that was denied, change nothing.
-fn apply_counter_freeze_qualifier(table: &mut [u8], ca: u16, choice: Option<Selection>, qualifier: u8)
+fn apply_counter_freeze_qualifier(
+    table: &mut [u8],
+    ca: u16,
+    choice: Option<Selection>,
+    qualifier: u8,
+)
     requires { well_formed table.old ≡ true }
     ensures { table.new ≡ with_table (λ t. pick (resets qualifier) (reset_by t ca choice) t) table.old }
 {

@@ -87,9 +87,9 @@ place_whole qs m few =
 
 -- Each number of a share is given as it is.
 pub record Given (s : StationShare) : Type 0 where
-  pub reservation_whole : narrowed s.reservation ≡ s.reservation
-  pub ceiling_whole : narrowed s.ceiling ≡ s.ceiling
-  pub held_whole : narrowed s.held ≡ s.held
+  pub reservation_whole : narrowed s.share.reservation ≡ s.share.reservation
+  pub ceiling_whole : narrowed s.share.ceiling ≡ s.share.ceiling
+  pub held_whole : narrowed s.share.held ≡ s.share.held
   pub free_whole : narrowed s.free ≡ s.free
   pub unmet_whole : narrowed s.unmet ≡ s.unmet
 

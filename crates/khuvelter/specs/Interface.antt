@@ -30,9 +30,9 @@ abbrev pub flat_share : Result StationShare Refusal → Share
 flat_share (Ok s) =
     record {
       number = 0;
-      reservation = narrowed s.reservation;
-      ceiling = narrowed s.ceiling;
-      held = narrowed s.held;
+      reservation = narrowed s.share.reservation;
+      ceiling = narrowed s.share.ceiling;
+      held = narrowed s.share.held;
       free = narrowed s.free;
       unmet = narrowed s.unmet;
     }

@@ -110,9 +110,9 @@ fn flat_share(share: Result<StationShare, Refusal>) -> Share
     match share {
         Ok(s) => Share {
             number: 0,
-            reservation: narrow(s.reservation),
-            ceiling: narrow(s.ceiling),
-            held: narrow(s.held),
+            reservation: narrow(s.share.reservation),
+            ceiling: narrow(s.share.ceiling),
+            held: narrow(s.share.held),
             free: narrow(s.free),
             unmet: narrow(s.unmet),
         },

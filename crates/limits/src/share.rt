@@ -5,7 +5,7 @@ ghost use Rattle.limits.specs.Share.{taken_in, let_go, unmet_of, admission_of};
 use crate::outcome::Refusal;
 
 // How many points a station holds, how many are kept for it, and how many it may hold.
-#[derive(Clone, Copy)]
+#[derive(Clone, Copy, Debug, PartialEq, Eq)]
 pub struct Share {
     pub held: usize,
     pub reservation: usize,
@@ -40,13 +40,11 @@ impl Share {
     }
 
     // What is still kept for the station: never below zero.
+    #[tactic(auto, using(crate::proofs::Shares::unmet_is))]
     pub fn unmet(self) -> usize
         ensures { result ≡ unmet_of self }
     {
-        if self.held < self.reservation {
-            return self.reservation - self.held;
-        }
-        0
+        self.reservation.saturating_sub(self.held)
     }
 
     // The share rule: one more point of this station may come in, with `free` places left and `unmet` kept for all stations, or has no room.
@@ -56,10 +54,7 @@ impl Share {
         if self.held >= self.ceiling {
             return Err(Refusal::CeilingReached);
         }
-        if self.held < self.reservation {
-            return Ok(());
-        }
-        if unmet < free {
+        if self.held < self.reservation || unmet < free {
             return Ok(());
         }
         Err(Refusal::NotAdmitted)

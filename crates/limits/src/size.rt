@@ -12,7 +12,7 @@ pub const CONTROL_OCTETS: usize = 4;
 pub const HEADER_OCTETS: usize = 6;
 
 // What is gone of the limit before the first object.
-const BEFORE_OBJECTS: usize = CONTROL_OCTETS + HEADER_OCTETS;
+pub const BEFORE_OBJECTS: usize = CONTROL_OCTETS + HEADER_OCTETS;
 
 // The octets of an object's address.
 pub const ADDRESS_OCTETS: usize = 3;

@@ -53,20 +53,6 @@ pub fn clear(m: &mut [u8], from: usize, to: usize)
     m[from..to].fill(0);
 }
 
-// An octet as a number.
-pub fn wide(x: u8) -> usize
-    ensures { (result ≡ x) × (result < 256) }
-{
-    usize::from(x)
-}
-
-// A number of 16 bits in the width that counts and places are reckoned in.
-pub fn wide16(x: u16) -> usize
-    ensures { (result ≡ x) × (result < 65536) }
-{
-    usize::from(x)
-}
-
 // N octets from `at` as a number, low octet first.
 pub fn number_at<const N: usize>(m: &[u8], at: usize) -> usize
     requires { (N ≤ 8) × (at + N ≤ length m.now) }

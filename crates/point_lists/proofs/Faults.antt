@@ -73,8 +73,8 @@ module _ (own : Outcome) (known : Bool) where
       by_tests true false n' r' = absurd (n' refl)
       by_tests false k n' r' = refl
 
--- The tests of the record of a point alone.
-alone : (t : Table) (p : Request) (m : List ℕ) (r : Reply) → m ≡ flat_record p → r ≡ own_tests t [] 0 (requests_in m) → r.outcome ≡ batch_fault t [] (whole p)
+-- The tests of the record of a point alone are those of the point.
+pub alone : (t : Table) (p : Request) (m : List ℕ) (r : Reply) → m ≡ flat_record p → r ≡ own_tests t [] 0 (requests_in m) → r.outcome ≡ batch_fault t [] (whole p)
 unfolding own_tests
 alone t p m r f e = ap (λ (z : Reply). z.outcome) e ∙ ap (λ (l : List Request). (own_tests t [] 0 l).outcome) (ap requests_in f ∙ alone_law p) ∙ by_test (is_done (batch_fault t [] (whole p))) refl
   where
@@ -88,11 +88,8 @@ alone t p m r f e = ap (λ (z : Reply). z.outcome) e ∙ ap (λ (l : List Reques
     by_test true d = sym (done_is _ d)
     by_test false d = refl
 
--- what the tests of the record of a point alone give back
-module _ (t : Table) (p : Request) (earlier : List Request) (m : List ℕ) (r : Reply) (f : m ≡ flat_record p) (e : r ≡ own_tests t [] 0 (requests_in m)) where
-  abbrev o : Outcome
-  o = r.outcome
-
+-- what the fault of a point alone makes of its fault in the batch
+module _ (t : Table) (p : Request) (earlier : List Request) (o : Outcome) (is : o ≡ batch_fault t [] (whole p)) where
   abbrev own : Outcome
   own = own_fault (is_planned (station_of p.ca t.stations)) (whole p)
 
@@ -101,7 +98,7 @@ module _ (t : Table) (p : Request) (earlier : List Request) (m : List ℕ) (r : 
 
   alone_is : o ≡ in_batch own known false
   unfolding batch_fault stands_in
-  alone_is = alone t p m r f e
+  alone_is = is
 
   fault_is : batch_fault t (last_first earlier) (whole p) ≡ in_batch own known (stands_in p earlier)
   unfolding batch_fault

@@ -11,7 +11,7 @@ use lib.Dec.{ltb, leb}
 use borrow.Author.Tests.{ltb-true}
 use Rattle.limits.specs.Test.{◌&◌, pick, total}
 use Rattle.limits.specs.Size.{point_octets}
-use Rattle.std.specs.Prelude.{Ok, Err}
+use Rattle.std.specs.Prelude.{Err}
 use Rattle.limits.specs.Outcome.{Outcome, done, is_done, number_of}
 use Rattle.limits.specs.declared.outcome.Refusal.TheVariants.{UnknownTypeOrAddress, StationNotPlanned, GroupOutOfRange, CounterGroupOutOfRange, NotCounter, AddressTwice, AlreadyRegistered, CeilingReached, NotAdmitted}
 use Rattle.limits.specs.Share.{admission_in}
@@ -27,7 +27,7 @@ use Rattle.table.proofs.Cut.{total_at}
 use Rattle.registry.specs.Effect.{Reply}
 use Rattle.registry.specs.Effect.{Effect, refused, first_fault}
 use Rattle.registry.specs.History.{AllTwelve}
-use Rattle.registry.specs.Registry.{is_planned, admission_outcome, room_fault, is_registered, with_request, stands_in, batch_fault, own_tests, room_tests, registering_all}
+use Rattle.registry.specs.Registry.{is_planned, room_fault, is_registered, with_request, stands_in, batch_fault, own_tests, room_tests, registering_all}
 use Rattle.registry.proofs.Requests.{accepted_good, planned_is}
 use Rattle.registry.proofs.Batches.{Ready, ready_more, ready_after, passes_accepted}
 
@@ -156,17 +156,19 @@ room_fits t i (q ∷ qs) g (ready_more p x y) w e =
     by_test ih true d e' = ih (done_is _ d) e'
     by_test ih false d e' = not_both (sym d ∙ ap is_done e')
 
-admission_high : (a : Outcome) → is_done (admission_outcome a) ≡ false → ltb (number_of (admission_outcome a)) 19 ≡ false
-admission_high done d = not_both (sym d)
-admission_high (Err CeilingReached) d = refl
-admission_high (Err NotAdmitted) d = refl
+-- the share rule refuses by 19 or 20
+admission_high : (below room : Bool) → is_done (pick below (pick room done (Err NotAdmitted)) (Err CeilingReached)) ≡ false
+    → ltb (number_of (pick below (pick room done (Err NotAdmitted)) (Err CeilingReached))) 19 ≡ false
+admission_high true true d = not_both (sym d)
+admission_high true false d = refl
+admission_high false room d = refl
 
 fault_high : (t : Table) (o : Option Station) (s : Station) → o ≡ some s → is_done (room_fault t o) ≡ false → ltb (number_of (room_fault t o)) 19 ≡ false
 unfolding room_fault
 fault_high t o s e d =
     let a : Outcome = admission_in t.capacity (map share_of t.stations) (share_of s) in
-    let f : room_fault t o ≡ admission_outcome a = ap (room_fault t) e in
-    ap (λ (x : Outcome). ltb (number_of x) 19) f ∙ admission_high a (ap is_done (sym f) ∙ d)
+    let f : room_fault t o ≡ a = ap (room_fault t) e in
+    ap (λ (x : Outcome). ltb (number_of x) 19) f ∙ admission_high _ _ (ap is_done (sym f) ∙ d)
 
 -- A refusal for room has number 19 or 20.
 pub room_high : (t : Table) (i : ℕ) (qs : List Request) → Ready t qs → is_done (room_tests t i qs).outcome ≡ false → ltb (number_of (room_tests t i qs).outcome) 19 ≡ false

@@ -6,13 +6,13 @@ use lib.Seq.{drop-cons}
 use Rattle.limits.specs.Test.{pick}
 use Rattle.limits.specs.Outcome.{Outcome, done, is_done}
 use Rattle.model.specs.declared.Request.{Request}
-use Rattle.std.specs.Prelude.{Option, Some, None}
 use Rattle.table.specs.Table.{Table}
 use Rattle.table.specs.Memory.{well_formed, table_of}
 use Rattle.registry.specs.Effect.{Reply}
 use Rattle.registry.specs.Registry.{batch_fault, own_tests}
 use Rattle.points.specs.Points.{whole, deciding}
-use Rattle.point_lists.specs.Later.{last_first, fault_in, later_fault}
+use Rattle.replies.specs.Replies.{placeless}
+use Rattle.point_lists.specs.Later.{last_first, later_tests}
 
 -- The own tests that are left from the i-th point on, all before it having passed.
 abbrev pub left : Table → List Request → ℕ → Reply
@@ -54,14 +54,7 @@ pub ends : (t : Table) (ps : List Request) (i : ℕ) → length ps ≤ i → lef
 unfolding own_tests
 ends t ps i h = ap (λ (l : List Request). own_tests t (last_first (take i ps)) i (map whole l)) (drop_all i ps h)
 
--- Where there is a table, the fault is the one that the tests name.
-module _ (m : List ℕ) (ps : List Request) (w : well_formed m ≡ true) where
-  told : (r : Reply) → left (table_of m) ps deciding ≡ r → fault_in r ≡ later_fault m ps
-  unfolding later_fault
-  told r e = sym (ap (λ (b : Bool). pick b (fault_in (left (table_of m) ps deciding)) None) w ∙ ap fault_in e)
-
-  pub told_fault : (r : Reply) → left (table_of m) ps deciding ≡ r → is_done r.outcome ≡ false → Some r ≡ later_fault m ps
-  told_fault r e d = sym (ap (λ (b : Bool). pick b None (Some r)) d) ∙ told r e
-
-  pub told_none : left (table_of m) ps deciding ≡ record { outcome = done; place = 0 } → ◌≡◌ {A = Option Reply} None (later_fault m ps)
-  told_none e = told (record { outcome = done; place = 0 }) e
+-- Where there is a table, what is left from the first later point on is what the tests of the later ones give.
+pub told : (m : List ℕ) (ps : List Request) → well_formed m ≡ true → left (table_of m) ps deciding ≡ later_tests m ps
+unfolding later_tests
+told m ps w = sym (ap (λ (b : Bool). pick b (left (table_of m) ps deciding) (placeless done)) w)

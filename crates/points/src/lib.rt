@@ -3,14 +3,14 @@
 
 ghost use Rattle.std.specs.Prelude.{◌≡◌, ◌≤◌, ◌*◌, length, take};
 ghost use Rattle.batch_records.specs.Records.{record_octets, records_in};
-ghost use Rattle.replies.specs.Replies.{Replies};
+ghost use Rattle.replies.specs.Replies.{Replies, placed};
 ghost use Rattle.registry.specs.Registry.{registering_all};
 ghost use Rattle.points.specs.Points.{flat_record, flat_records, deciding_octets, batch_of};
 
 use batch_records::RECORD_OCTETS;
 use layout::MOST_PLACES;
 use model::Request;
-use registry::Reply;
+use registry::Fault;
 
 // The octets of a point record.
 pub fn record_of(q: Request) -> [u8; RECORD_OCTETS]
@@ -47,8 +47,8 @@ pub const DECIDING: usize = MOST_PLACES + 1;
 const DECIDING_OCTETS: usize = RECORD_OCTETS * DECIDING;
 
 // Registers a batch of point records by the first that decide: a longer one is refused in any case, and `point_lists` tests the points after them.
-pub fn register_first(table: &mut [u8], points: &[Request]) -> Reply
-    ensures { Replies (registering_all (batch_of deciding_octets points.now)) table.old result table.new }
+pub fn register_first(table: &mut [u8], points: &[Request]) -> Result<(), Fault>
+    ensures { Replies (registering_all (batch_of deciding_octets points.now)) table.old (placed result) table.new }
 {
     let mut records = [0u8; DECIDING_OCTETS];
     let count = lay_down(&mut records, points);

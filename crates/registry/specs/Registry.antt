@@ -98,9 +98,7 @@ share_in t none = Err StationNotPlanned
 share_in t (some s) =
     Ok
     record {
-      reservation = s.reservation;
-      ceiling = s.ceiling;
-      held = held s;
+      share = share_of s;
       free = t.capacity - total held t.stations;
       unmet = total unmet t.stations;
     }

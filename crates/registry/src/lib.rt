@@ -2,6 +2,7 @@
 #![tactic(auto)]
 
 use limits::outcome::Refusal;
+use limits::share::Share;
 
 // Why a batch is refused, and the place of the faulty point.
 #[derive(Clone, Copy, Debug, PartialEq, Eq)]
@@ -13,9 +14,7 @@ pub struct Fault {
 // The share of a station, with what is free and unmet in the whole table.
 #[derive(Clone, Copy, Debug, PartialEq, Eq)]
 pub struct StationShare {
-    pub reservation: usize,
-    pub ceiling: usize,
-    pub held: usize,
+    pub share: Share,
     pub free: usize,
     pub unmet: usize,
 }

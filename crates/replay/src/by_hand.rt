@@ -2,9 +2,14 @@
 // records, a system command with the clock lent as a record.
 use crate::command_calls::asdu_in;
 use crate::reply::print_reply;
+use answers::Written;
 use khuvelter::Reply;
+use limits::outcome;
+use limits::outcome::Refusal;
+use registry::Fault;
 use script::reading::{length_in_four, length_in_two, part, past};
-use std::io::{Result, Write};
+use std::io;
+use std::io::Write;
 
 // Octets of a record, and of three.
 const RECORD: usize = 24;
@@ -16,8 +21,28 @@ fn narrow(n: usize) -> u32 {
     (n % 4294967296) as u32
 }
 
+// The reply to a batch: a refusal names the place of the faulty point.
+fn batch_reply(batch: Result<(), Fault>) -> Reply {
+    Reply {
+        number: outcome::number_of(batch.map_err(|fault| fault.refusal)),
+        place: batch.err().map_or(0, |fault| narrow(fault.place)),
+        octets: 0,
+        spontaneous: 0,
+    }
+}
+
+// The reply to a system command, which tells nothing spontaneously.
+fn command_reply(answered: Result<Written, Refusal>) -> Reply {
+    Reply {
+        number: outcome::number_of(answered.map(|_| ())),
+        place: 0,
+        octets: answered.map_or(0, |written| narrow(written.octets)),
+        spontaneous: 0,
+    }
+}
+
 // Registers the batch of none, one or three flat records as a slice of point records.
-fn register(table: &mut [u8], records: &[u8]) -> registry::Reply {
+fn register(table: &mut [u8], records: &[u8]) -> Result<(), Fault> {
     let n = records.len();
     if n == RECORD {
         let one = model::request_at(records, 0);
@@ -33,21 +58,16 @@ fn register(table: &mut [u8], records: &[u8]) -> registry::Reply {
 }
 
 // Register a batch.
-pub fn batch<W: Write>(out: &mut W, script: &[u8], at: usize, table: &mut [u8]) -> Result<usize> {
+pub fn batch<W: Write>(
+    out: &mut W,
+    script: &[u8],
+    at: usize,
+    table: &mut [u8],
+) -> io::Result<usize> {
     let length = length_in_four(script, at);
     let start = past(script, at, 4);
-    let reply = register(table, part(script, start, length));
-    let outcome = reply.outcome;
-    print_reply(
-        out,
-        b"batch",
-        Reply {
-            number: outcome.number(),
-            place: narrow(reply.place),
-            octets: 0,
-            spontaneous: 0,
-        },
-    )?;
+    let batch = register(table, part(script, start, length));
+    print_reply(out, b"batch", batch_reply(batch))?;
     Ok(past(script, start, length))
 }
 
@@ -59,7 +79,7 @@ pub fn system<W: Write>(
     table: &mut [u8],
     clock: &mut [u8; 8],
     answer: &mut [u8],
-) -> Result<usize> {
+) -> io::Result<usize> {
     let mut asdu = [0u8; 512];
     let next = asdu_in(script, at, &mut asdu);
     let length = length_in_two(script, at);
@@ -68,17 +88,6 @@ pub fn system<W: Write>(
     let after = told.clock;
     let time = after.octets;
     *clock = clock::octets_of(time, after.known);
-    let answered = told.answered;
-    let outcome = answered.outcome;
-    print_reply(
-        out,
-        b"system",
-        Reply {
-            number: outcome.number(),
-            place: 0,
-            octets: narrow(answered.octets),
-            spontaneous: 0,
-        },
-    )?;
+    print_reply(out, b"system", command_reply(told.answered))?;
     Ok(next)
 }

@@ -39,7 +39,7 @@ pub fn selects_at(m: &[u8], at: usize, s: Selection) -> bool
 {
     match s {
         Selection::Every => true,
-        Selection::Group(g) => octets::number_at::<2>(m, at + GROUP_OFFSET) == octets::wide(g),
+        Selection::Group(g) => octets::number_at::<2>(m, at + GROUP_OFFSET) == usize::from(g),
         Selection::CounterGroup(g) => m[at + COUNTER_OFFSET] == g,
     }
 }

@@ -60,16 +60,9 @@ fn clock_of(asdu: &[u8]) -> [u8; 8]
     ensures { result ≡ clock_from asdu.now }
 {
     let at = HEADER_OCTETS + ADDRESS_OCTETS;
-    [
-        asdu[at],
-        asdu[at + 1],
-        asdu[at + 2],
-        asdu[at + 3],
-        asdu[at + 4],
-        asdu[at + 5],
-        asdu[at + 6],
-        1,
-    ]
+    let mut clock = [1; 8];
+    clock[..7].copy_from_slice(&asdu[at..at + 7]);
+    clock
 }
 
 // The echo of all objects; the clock is stored if the echo was given.
@@ -132,20 +125,13 @@ fn dispatch_rtu_system_handler(
     requires { (well_formed table.old ≡ true) × (read_as (limit_of (table_of table.old)) SystemCommands asdu.now ≡ Ok command) × (0 < command.count) }
     ensures { Leaves as_it_is (command_said clock.old asdu.now command) (at_entry table clock.old answer) (answered result) (at_exit table clock.new answer) }
 {
-    let kind = command.kind;
-    if kind == C_IC_NA_1 {
-        return interrogations::handle_interrogation(answer, table, command, asdu);
+    match command.kind {
+        C_IC_NA_1 => interrogations::handle_interrogation(answer, table, command, asdu),
+        C_CI_NA_1 => interrogations::handle_counter_interrogation(table, answer, command, asdu),
+        C_RD_NA_1 => handle_read(answer, table, command, asdu),
+        C_CS_NA_1 => handle_clock_sync(answer, clock, command, asdu),
+        _ => confirming::echo(answer, command, asdu, false),
     }
-    if kind == C_CI_NA_1 {
-        return interrogations::handle_counter_interrogation(table, answer, command, asdu);
-    }
-    if kind == C_RD_NA_1 {
-        return handle_read(answer, table, command, asdu);
-    }
-    if kind == C_CS_NA_1 {
-        return handle_clock_sync(answer, clock, command, asdu);
-    }
-    confirming::echo(answer, command, asdu, false)
 }
 
 // A command that was read: silent without a first object, silent if it is passed over, else its answer.

@@ -87,7 +87,7 @@ put-requires c =
     let few = z.capacity in
     let free = z.free in
     let long = z.length_is in
-    (omega (arith, c.raise_held.auto, c.merge.auto), omega arith)
+    (omega arith, omega (arith, c.raise_held.auto, c.merge.auto), omega arith)
 
 pub returns : goal.returns
 returns c =

@@ -8,4 +8,4 @@ pub returns : goal.returns
 returns c =
     let f = c.register_first-first in
     let o : Octets c.args.table.now = λ i. search rules in
-    comes c.args.table.now c.args.points.now o _ f.result _ f.new.table c.later_fault-later.ensures f.ensures c.answer_of.ensures
+    comes c.args.table.now c.args.points.now o _ _ _ f.new.table c.later_tests-later.ensures f.ensures c.answer_of.ensures

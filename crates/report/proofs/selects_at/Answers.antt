@@ -11,7 +11,7 @@ pub returns-in-Group : goal.returns-in-Group
 returns-in-Group c =
     let a = c.args in
     let e = ap (λ (s : Selection). selects s (point_at a.m.now a.at)) c.in-Group.is in
-    ap₂ (λ (x y : ℕ). eqb x y) c.number_at.ensures.0 c.wide.ensures.0 ∙ sym e
+    ap₂ (λ (x y : ℕ). eqb x y) c.number_at.ensures.0 c.from.ensures ∙ sym e
 
 pub returns-in-CounterGroup : goal.returns-in-CounterGroup
 returns-in-CounterGroup c =

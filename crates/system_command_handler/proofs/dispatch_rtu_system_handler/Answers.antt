@@ -1,5 +1,8 @@
 -- Each type leads to its answer. Assumes nothing.
-use mathlib.Core.Path.{sym, ap, ◌∙◌}
+use mathlib.Core.Path.{◌≡◌, refl, sym, ap, ◌∙◌}
+use mathlib.Core.Bool.{false}
+use lib.Dec.{eqb}
+use borrow.Author.Tests.{eqb-false}
 use mathlib.Core.List.{List, []}
 use Prim.Native.Nat.{ℕ}
 use Rattle.limits.specs.Test.{pick}
@@ -16,33 +19,37 @@ use Rattle.system_command_handler.proofs.Ways.{sizes_of, element_is, one_octet, 
 use native.Mathlib.Omega.{arith}
 use Rattle.system_command_handler.proofs.dispatch_rtu_system_handler.Goals as goal
 
+-- what is one type is no other
+other : {k b : ℕ} (a : ℕ) → k ≡ b → (eqb a b ≡ false) → k ≡ a → ⊥
+other a e d q = eqb-false _ _ d (sym q ∙ e)
+
 pub handle_interrogation-requires : goal.handle_interrogation-requires
 handle_interrogation-requires c =
     let there = c.requires.2 in
-    let y = element_is 100 1 one_octet.0 c.args.command c.args.asdu.now (sizes_of (limit_of (table_of c.args.table.now)) c.args.asdu.now c.args.command c.requires.1) c.if-kind-eq-C_IC_NA_1.true in
+    let y = element_is 100 1 one_octet.0 c.args.command c.args.asdu.now (sizes_of (limit_of (table_of c.args.table.now)) c.args.asdu.now c.args.command c.requires.1) c.in-100.is in
     let e = y.0 in
     let l = y.1 in
     (c.requires.0, ((omega arith, omega arith), omega arith))
 
-pub returns-then-kind-eq-C_IC_NA_1 : goal.returns-then-kind-eq-C_IC_NA_1
-returns-then-kind-eq-C_IC_NA_1 c =
+pub returns-in-100 : goal.returns-in-100
+returns-in-100 c =
     let a = c.args in
     let o : Octets a.table.now = λ i. omega (arith, c.slice_known-1.given i) in
-    let S = said_interrogation a.clock.now a.asdu.now a.command (table_of a.table.now) c.if-kind-eq-C_IC_NA_1.true in
+    let S = said_interrogation a.clock.now a.asdu.now a.command (table_of a.table.now) c.in-100.is in
     (ends_says (command_said c.args.clock.now c.args.asdu.now c.args.command) (lent c.args.table.now c.args.clock.now c.args.answer.now []) c.requires.0 o _ a.clock.now S _ _ _ c.handle_interrogation.ensures (same_clock (is_done (answered c.handle_interrogation.result).outcome) a.clock.now))
 
 pub handle_counter_interrogation-requires : goal.handle_counter_interrogation-requires
 handle_counter_interrogation-requires c =
     let there = c.requires.2 in
-    let y = element_is 101 1 one_octet.1 c.args.command c.args.asdu.now (sizes_of (limit_of (table_of c.args.table.now)) c.args.asdu.now c.args.command c.requires.1) c.if-kind-eq-C_CI_NA_1.true in
+    let y = element_is 101 1 one_octet.1 c.args.command c.args.asdu.now (sizes_of (limit_of (table_of c.args.table.now)) c.args.asdu.now c.args.command c.requires.1) c.in-101.is in
     let e = y.0 in
     let l = y.1 in
     (c.requires.0, ((omega arith, omega arith), omega arith))
 
-pub returns-then-kind-eq-C_CI_NA_1 : goal.returns-then-kind-eq-C_CI_NA_1
-returns-then-kind-eq-C_CI_NA_1 c =
+pub returns-in-101 : goal.returns-in-101
+returns-in-101 c =
     let a = c.args in
-    let S = said_counters a.clock.now a.asdu.now a.command (table_of a.table.now) c.if-kind-eq-C_IC_NA_1.false c.if-kind-eq-C_CI_NA_1.true in
+    let S = said_counters a.clock.now a.asdu.now a.command (table_of a.table.now) (other 100 c.in-101.is refl) c.in-101.is in
     let e = c.handle_counter_interrogation.ensures in
     let d = done_given c.handle_counter_interrogation.result in
     let b = is_done (answered c.handle_counter_interrogation.result).outcome in
@@ -54,27 +61,27 @@ returns-then-kind-eq-C_CI_NA_1 c =
 pub handle_read-requires : goal.handle_read-requires
 handle_read-requires c =
     let z = sizes_of (limit_of (table_of c.args.table.now)) c.args.asdu.now c.args.command c.requires.1 in
-    let y = element_is 102 0 one_octet.2 c.args.command c.args.asdu.now z c.if-kind-eq-C_RD_NA_1.true in
+    let y = element_is 102 0 one_octet.2 c.args.command c.args.asdu.now z c.in-102.is in
     (c.requires.0, c.requires.2, omega (arith, z.few), y.0, y.1)
 
-pub returns-then-kind-eq-C_RD_NA_1 : goal.returns-then-kind-eq-C_RD_NA_1
-returns-then-kind-eq-C_RD_NA_1 c =
+pub returns-in-102 : goal.returns-in-102
+returns-in-102 c =
     let a = c.args in
     let o : Octets a.table.now = λ i. omega (arith, c.slice_known-1.given i) in
-    let S = said_read a.clock.now a.asdu.now a.command (table_of a.table.now) c.if-kind-eq-C_IC_NA_1.false c.if-kind-eq-C_CI_NA_1.false c.if-kind-eq-C_RD_NA_1.true in
+    let S = said_read a.clock.now a.asdu.now a.command (table_of a.table.now) (other 100 c.in-102.is refl) (other 101 c.in-102.is refl) c.in-102.is in
     (ends_says (command_said c.args.clock.now c.args.asdu.now c.args.command) (lent c.args.table.now c.args.clock.now c.args.answer.now []) c.requires.0 o _ a.clock.now S _ _ _ c.handle_read.ensures (same_clock (is_done (answered c.handle_read.result).outcome) a.clock.now))
 
 pub handle_clock_sync-requires : goal.handle_clock_sync-requires
 handle_clock_sync-requires c =
     let there = c.requires.2 in
-    let y = element_is 103 7 one_octet.3 c.args.command c.args.asdu.now (sizes_of (limit_of (table_of c.args.table.now)) c.args.asdu.now c.args.command c.requires.1) c.if-kind-eq-C_CS_NA_1.true in
+    let y = element_is 103 7 one_octet.3 c.args.command c.args.asdu.now (sizes_of (limit_of (table_of c.args.table.now)) c.args.asdu.now c.args.command c.requires.1) c.in-103.is in
     ((sizes_of (limit_of (table_of c.args.table.now)) c.args.asdu.now c.args.command c.requires.1).octets, omega (arith, y.1))
 
-pub returns-then-kind-eq-C_CS_NA_1 : goal.returns-then-kind-eq-C_CS_NA_1
-returns-then-kind-eq-C_CS_NA_1 c =
+pub returns-in-103 : goal.returns-in-103
+returns-in-103 c =
     let a = c.args in
     let o : Octets a.table.now = λ i. omega (arith, c.slice_known-1.given i) in
-    let S = said_clock a.clock.now a.asdu.now a.command (table_of a.table.now) c.if-kind-eq-C_IC_NA_1.false c.if-kind-eq-C_CI_NA_1.false c.if-kind-eq-C_RD_NA_1.false c.if-kind-eq-C_CS_NA_1.true in
+    let S = said_clock a.clock.now a.asdu.now a.command (table_of a.table.now) (other 100 c.in-103.is refl) (other 101 c.in-103.is refl) (other 102 c.in-103.is refl) c.in-103.is in
     let e = c.handle_clock_sync.ensures in
     ends_says (command_said c.args.clock.now c.args.asdu.now c.args.command) (lent c.args.table.now c.args.clock.now c.args.answer.now []) c.requires.0 o _ _ S _ _ _ e.sends (e.clock_value ∙ (λ j. pick (sym (done_given c.handle_clock_sync.result) j) (clock_from a.asdu.now) a.clock.now))
 
@@ -82,9 +89,13 @@ pub echo-requires : goal.echo-requires
 echo-requires c =
     (sizes_of (limit_of (table_of c.args.table.now)) c.args.asdu.now c.args.command c.requires.1).octets
 
-pub returns : goal.returns
-returns c =
+pub returns-in_default : goal.returns-in_default
+returns-in_default c =
     let a = c.args in
+    let n0 : c.args.command.kind ≡ 100 → ⊥ = λ q. omega arith in
+    let n1 : c.args.command.kind ≡ 101 → ⊥ = λ q. omega arith in
+    let n2 : c.args.command.kind ≡ 102 → ⊥ = λ q. omega arith in
+    let n3 : c.args.command.kind ≡ 103 → ⊥ = λ q. omega arith in
     let o : Octets a.table.now = λ i. omega (arith, c.slice_known-1.given i) in
-    let S = said_echo a.clock.now a.asdu.now a.command (table_of a.table.now) c.if-kind-eq-C_IC_NA_1.false c.if-kind-eq-C_CI_NA_1.false c.if-kind-eq-C_RD_NA_1.false c.if-kind-eq-C_CS_NA_1.false in
+    let S = said_echo a.clock.now a.asdu.now a.command (table_of a.table.now) n0 n1 n2 n3 in
     (ends_says (command_said c.args.clock.now c.args.asdu.now c.args.command) (lent c.args.table.now c.args.clock.now c.args.answer.now []) c.requires.0 o _ a.clock.now S _ _ _ c.echo.ensures (same_clock (is_done (answered c.echo.result).outcome) a.clock.now))

@@ -23,19 +23,19 @@ returns-then-asdu-ge128 c =
 
 pub overflow_mul-result : goal.overflow_mul-result
 overflow_mul-result c =
-    let s = small c.wide-count.result (3 + c.element_octets-element.result) (omega arith) (omega arith) in
+    let s = small c.from-count.result (3 + c.element_octets-element.result) (omega arith) (omega arith) in
     omega arith
 
 pub overflow_add-result-2 : goal.overflow_add-result-2
 overflow_add-result-2 c =
-    let s = small c.wide-count.result (3 + c.element_octets-element.result) (omega arith) (omega arith) in
+    let s = small c.from-count.result (3 + c.element_octets-element.result) (omega arith) (omega arith) in
     omega arith
 
 pub returns : goal.returns
 unfolding ◌&◌
 returns c =
     let m = c.args.asdu.now in
-    let w = c.wide-count.ensures.0 in
+    let w = c.from-count.ensures in
     let e = c.element_octets-element.ensures.0 in
     let flag : leb 128 (get_or m 1 0) ≡ false = lt-leb 128 (get_or m 1 0) (omega arith) in
     rw flag (λ j. eqb (length m) (6 + w j * (3 + e j)))
