@@ -3,7 +3,6 @@
 
 ghost use Rattle.std.specs.Prelude.{◌≡◌, ◌+◌, ◌*◌, ◌-◌, ◌≤◌, ◌<◌, length};
 ghost use Rattle.layout.specs.Layout.{head_size, place_size, station_size, most_stations, after_places, held_at};
-ghost use Rattle.model.specs.Limits.{place_limits};
 ghost use Rattle.wellformed.specs.Station.{share_at, AddedUp, places_at};
 ghost use Rattle.table.specs.Table.{numbers_ok, shares_ok};
 ghost use Rattle.table.specs.Memory.{sum_at, numbers_at, plan_at, bodies_at, mark_at, settings_at, head_at, shares_at, well_formed};
@@ -13,7 +12,7 @@ use layout::{
     SPARE_OFFSET, SPARE_SIZE, STATION_SIZE,
 };
 use limits::share::Share;
-use model::PLACE_LIMITS;
+use model::PlaceLimits;
 
 // ---- the head
 
@@ -202,10 +201,10 @@ fn plan_and_shares(m: &[u8], k: usize, at: usize, n: usize, points: usize) -> bo
 
 // ---- the places
 
-// Each station's places, station after station. `limits` are those of `place_limits`.
+// Each station's places, station after station.
 #[tactic(auto, using(crate::proofs::Turns::bodies_on, crate::proofs::Turns::bodies_off, crate::proofs::Turns::bodies_end, crate::proofs::Turns::sum_on))]
-fn bodies_ok(m: &[u8], at: usize, n: usize, limits: &[usize; PLACE_LIMITS]) -> bool
-    requires { (at + station_size * n ≤ length m.now) × (head_size + place_size * sum_at held_at m.now at n ≤ length m.now) × (limits.now ≡ place_limits) }
+fn bodies_ok(m: &[u8], at: usize, n: usize, limits: &PlaceLimits) -> bool
+    requires { (at + station_size * n ≤ length m.now) × (head_size + place_size * sum_at held_at m.now at n ≤ length m.now) }
     ensures { result ≡ bodies_at m.now head_size at n }
 {
     let mut place = HEAD_SIZE;
@@ -213,7 +212,7 @@ fn bodies_ok(m: &[u8], at: usize, n: usize, limits: &[usize; PLACE_LIMITS]) -> b
         let station = at + STATION_SIZE * i;
         let ca = layout::ca_at(m, station);
         let h = layout::held_at(m, station);
-        if !model::places_ok(m, place, ca, h, limits) {
+        if !limits.places_ok(m, place, ca, h) {
             return false;
         }
         place += PLACE_SIZE * h;
@@ -227,7 +226,7 @@ fn places_and_unused(m: &[u8], k: usize, n: usize, points: usize) -> bool
     requires { (after_places k + station_size * n ≤ length m.now) × (points ≤ k) × (points ≡ sum_at held_at m.now (after_places k) n) }
     ensures { result ≡ places_at m.now k n points }
 {
-    let limits = model::place_limits();
+    let limits = PlaceLimits::new();
     if !bodies_ok(m, HEAD_SIZE + PLACE_SIZE * k, n, &limits) {
         return false;
     }

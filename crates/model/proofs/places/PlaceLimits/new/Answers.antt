@@ -7,7 +7,7 @@ use Rattle.limits.proofs.Sizes.{point_at_most}
 use Rattle.model.specs.Limits.{first_of, last_of}
 use Rattle.model.proofs.Limits.{filled, filled_none, filled_turn, filled_all, size_is}
 use native.Mathlib.Omega.{arith}
-use Rattle.model.proofs.places.place_limits.Goals as goal
+use Rattle.model.proofs.places.PlaceLimits.new.Goals as goal
 
 pub loop-kind-init : goal.loop-kind-init
 loop-kind-init c = filled_none
@@ -30,10 +30,11 @@ loop-kind-preserved c =
     let e : c.from-size.result ≡ point_octets c.loop-kind.kind =
     size_is c.point_sizes-sizes.result c.loop-kind.kind c.from-size.result c.point_sizes-sizes.ensures c.from-size.ensures in
     let l = c.loop-kind in
-    filled_turn l.limits l.kind c.from-size.result l.invariant (omega arith) e
+    filled_turn l.numbers l.kind c.from-size.result l.invariant (omega arith) e
 
-pub returns : goal.returns
-returns c =
+-- the table is whole after the last turn
+pub invariant_of-result : goal.invariant_of-result
+invariant_of-result c =
     let l = c.loop-kind in
     let e : l.kind ≡ 41 = omega arith in
-    ap (λ (x : List ℕ). set (set x 97 4) 119 4) (l.invariant ∙ ap filled e) ∙ filled_all
+    record { known = ap (λ (x : List ℕ). set (set x 97 4) 119 4) (l.invariant ∙ ap filled e) ∙ filled_all }

@@ -2,7 +2,7 @@ use mathlib.Core.Path.{◌≡◌, refl, sym, ◌∙◌}
 use Prim.Native.Nat.{◌+◌, ◌*◌, ◌-◌}
 use Rattle.model.proofs.Within.{places_on, places_off, places_end}
 use native.Mathlib.Omega.{arith}
-use Rattle.model.proofs.places.places_ok.Goals as goal
+use Rattle.model.proofs.places.PlaceLimits.places_ok.Goals as goal
 
 pub loop-i-init : goal.loop-i-init
 loop-i-init c = let a = c.args in let e : a.at ≡ a.at + 48 * 0 = omega arith in let k : a.n ≡ a.n - 0 = omega arith in rw (← e, ← k) refl
