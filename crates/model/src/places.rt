@@ -147,6 +147,7 @@ impl PlaceLimits {
     }
 
     // The same of n places, IOA rising.
+    #[tactic(auto, using(crate::proofs::Within::places_on, crate::proofs::Within::places_off, crate::proofs::Within::places_end))]
     pub fn places_ok(&self, m: &[u8], at: usize, ca: usize, n: usize) -> bool
         requires { at + place_size * n ≤ length m.now }
         ensures { result ≡ places_ok m.now at ca 0 n }
