@@ -72,6 +72,7 @@ fn spare_zero(m: &[u8], at: usize) -> bool
 
 impl PlaceLimits {
     // The limits of every type.
+    #[tactic(auto, using(crate::proofs::Limits::filled_none, crate::proofs::Limits::size_small, crate::proofs::Limits::filled_end))]
     pub fn new() -> PlaceLimits
         ensures { result.numbers ≡ place_limits }
     {
