@@ -1,5 +1,5 @@
 // Memory that a script sets and lends to the calls, and a checksum over it.
-ghost use Rattle.std.specs.Prelude.{◌<◌};
+ghost use Rattle.std.specs.Prelude.{◌≡◌, ◌<◌, take};
 
 use crate::reading::Script;
 
@@ -62,13 +62,17 @@ impl<'a> Memory<'a> {
     }
 
     // The octets that are lent, to read.
-    pub fn lent(&self) -> &[u8] {
+    pub fn lent(&self) -> &[u8]
+        ensures { result.now ≡ take self.now.lent self.now.octets.now }
+    {
         let count = self.lent.min(self.octets.len());
         &self.octets[..count]
     }
 
     // The octets that are lent, to write.
-    pub fn lent_mut(&mut self) -> &mut [u8] {
+    pub fn lent_mut(&mut self) -> &mut [u8]
+        ensures { result.now ≡ take self.old.lent self.old.octets.now }
+    {
         let count = self.lent.min(self.octets.len());
         &mut self.octets[..count]
     }

@@ -3,8 +3,6 @@
 // are made by reference/sizes.py, which knows nothing of this code.
 #![tactic(auto)]
 
-ghost use Rattle.std.specs.Prelude.{◌≤◌};
-
 use limits::size::{
     Class, STANDARD_LIMIT, class_of, element_octets, most_objects, point_octets, run_octets,
 };
@@ -33,7 +31,7 @@ fn type_line<W: Write>(out: &mut W, kind: u8) -> io::Result<()> {
     writeln!(out, "type {kind} {class} {element} {most}")
 }
 
-// The octets of a point type's runs; nothing for any other type.
+// The octets of a point type's runs about the ends of an ASDU; nothing for any other type.
 fn run_line<W: Write>(out: &mut W, kind: u8) -> io::Result<()> {
     let element = point_octets(kind);
     if element == 0 {
@@ -41,30 +39,19 @@ fn run_line<W: Write>(out: &mut W, kind: u8) -> io::Result<()> {
     }
     let most = most_objects(STANDARD_LIMIT, element);
     write!(out, "run {kind}")?;
-    runs(out, element, most)?;
+    for n in [
+        0,
+        1,
+        most - 1,
+        most,
+        most + 1,
+        2 * most,
+        2 * most + 1,
+        MOST_POINTS,
+    ] {
+        write!(out, " {}", run_octets(STANDARD_LIMIT, element, n))?;
+    }
     writeln!(out)
-}
-
-// The octets of the runs of one element size, `most` being its most objects in an ASDU.
-fn runs<W: Write>(out: &mut W, element: usize, most: usize) -> io::Result<()>
-    requires { (element ≤ 12) × (1 ≤ most) × (most ≤ 127) }
-{
-    run(out, element, 0)?;
-    run(out, element, 1)?;
-    run(out, element, most - 1)?;
-    run(out, element, most)?;
-    run(out, element, most + 1)?;
-    run(out, element, 2 * most)?;
-    run(out, element, 2 * most + 1)?;
-    run(out, element, MOST_POINTS)
-}
-
-// The octets of one run.
-fn run<W: Write>(out: &mut W, element: usize, n: usize) -> io::Result<()>
-    requires { (element ≤ 12) × (n ≤ 65536) }
-{
-    let octets = run_octets(STANDARD_LIMIT, element, n);
-    write!(out, " {octets}")
 }
 
 // The word for a class.
