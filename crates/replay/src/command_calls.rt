@@ -1,79 +1,66 @@
 // Start of a connection and commands, in the same way as the calls on the table.
-use crate::reply::print_reply;
-use script::memory::copy_in;
-use script::reading::{length_in_four, length_in_two, octet, part, past};
+use crate::reply::Replay;
+use script::memory::{copy_in, first};
+use script::reading::Script;
 use std::io::{Result, Write};
 
-// Start of a connection.
-pub fn started<W: Write>(out: &mut W, at: usize, table: &[u8], answer: &mut [u8]) -> Result<usize> {
-    print_reply(
-        out,
-        b"started",
-        khuvelter::khuvelter_connection_started(table, answer),
-    )?;
-    Ok(at)
+// What the array of an ASDU has room for.
+pub const ASDU_ROOM: usize = 512;
+
+// Reads the octets of an ASDU: those given in the script, then zeros, and none at all where they have no room.
+pub fn asdu_in<'a>(script: &mut Script<'_>, room: &'a mut [u8; ASDU_ROOM]) -> &'a [u8] {
+    let length = script.length_in_two();
+    let given = script.length_in_two();
+    copy_in(script.part(given), room);
+    first(room, length)
 }
 
-// The octets of an ASDU: those given in the script, then zeros.
-pub fn asdu_in(script: &[u8], at: usize, asdu: &mut [u8]) -> usize {
-    let start = past(script, at, 4);
-    let given = length_in_two(script, past(script, at, 2));
-    copy_in(part(script, start, given), asdu);
-    past(script, start, given)
-}
+impl<'a, W: Write> Replay<'a, W> {
+    // Start of a connection.
+    pub fn started(&mut self) -> Result<()> {
+        let memories = &mut self.memories;
+        let table = memories.table.lent();
+        let answer = memories.answer.lent_mut();
+        let reply = khuvelter::khuvelter_connection_started(table, answer);
+        self.print("started", reply)
+    }
 
-// A system command.
-pub fn system<W: Write>(
-    out: &mut W,
-    script: &[u8],
-    at: usize,
-    table: &mut [u8],
-    clock: &mut [u8; 8],
-    answer: &mut [u8],
-) -> Result<usize> {
-    let mut asdu = [0u8; 512];
-    let next = asdu_in(script, at, &mut asdu);
-    let length = length_in_two(script, at);
-    print_reply(
-        out,
-        b"system",
-        khuvelter::khuvelter_system_command(table, clock, part(&asdu, 0, length), answer),
-    )?;
-    Ok(next)
-}
+    // A system command.
+    pub fn system(&mut self) -> Result<()> {
+        let mut room = [0u8; ASDU_ROOM];
+        let asdu = asdu_in(&mut self.script, &mut room);
+        let memories = &mut self.memories;
+        let table = memories.table.lent_mut();
+        let clock = &mut memories.clock;
+        let answer = memories.answer.lent_mut();
+        let reply = khuvelter::khuvelter_system_command(table, clock, asdu, answer);
+        self.print("system", reply)
+    }
 
-// A process command with its proposal.
-pub fn process<W: Write>(
-    out: &mut W,
-    script: &[u8],
-    at: usize,
-    table: &mut [u8],
-    answer: &mut [u8],
-    spontaneous: &mut [u8],
-) -> Result<usize> {
-    let mut asdu = [0u8; 512];
-    let flags = asdu_in(script, at, &mut asdu);
-    let length = length_in_two(script, at);
-    let negative = octet(script, flags);
-    let reply_type = octet(script, past(script, flags, 1));
-    let reply_length = length_in_two(script, past(script, flags, 2));
-    let reply = past(script, flags, 4);
-    let after = past(script, reply, reply_length);
-    let updates_length = length_in_four(script, after);
-    let updates = past(script, after, 4);
-    print_reply(
-        out,
-        b"process",
-        khuvelter::khuvelter_process_command(
+    // A process command with its proposal.
+    pub fn process(&mut self) -> Result<()> {
+        let mut room = [0u8; ASDU_ROOM];
+        let asdu = asdu_in(&mut self.script, &mut room);
+        let negative = self.script.octet();
+        let reply_type = self.script.octet();
+        let octets = self.script.length_in_two();
+        let proposed = self.script.part(octets);
+        let length = self.script.length_in_four();
+        let updates = self.script.part(length);
+        let memories = &mut self.memories;
+        let table = memories.table.lent_mut();
+        let answer = memories.answer.lent_mut();
+        let spontaneous = memories.spontaneous.lent_mut();
+        let reply = khuvelter::khuvelter_process_command(
             table,
-            part(&asdu, 0, length),
+            asdu,
             negative,
             reply_type,
-            part(script, reply, reply_length),
-            part(script, updates, updates_length),
+            proposed,
+            updates,
             answer,
             spontaneous,
-        ),
-    )?;
-    Ok(past(script, updates, updates_length))
+        );
+        self.print("process", reply)
+    }
 }

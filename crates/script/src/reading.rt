@@ -1,53 +1,74 @@
-// Reading a script. Past its end every octet is 0, and a position never goes past the end.
+// Reading a script from its start on. Past its end every octet is 0.
+ghost use Rattle.std.specs.Prelude.{◌≡◌, take, drop, slice_get, slice_index_or};
 
-// The octet at a position.
-pub fn octet(script: &[u8], at: usize) -> u8 {
-    if at < script.len() {
-        return script[at];
-    }
-    0
+// What is left to read of a script.
+#[derive(Drop)]
+pub struct Script<'a> {
+    left: &'a [u8],
 }
 
-// The position so many octets further.
-pub fn past(script: &[u8], at: usize, count: usize) -> usize {
-    if at < script.len() {
-        if count < script.len() - at {
-            return at + count;
+impl<'a> Script<'a> {
+    // A script of which nothing is read.
+    pub fn new(octets: &'a [u8]) -> Script<'a>
+        ensures { result.left.now ≡ octets.now }
+    {
+        Script { left: octets }
+    }
+
+    // Reads the letter of a step, if anything is left.
+    pub fn letter(&mut self) -> Option<u8>
+        ensures value { result ≡ slice_get self.old.left.now 0 }
+        ensures left { self.new.left.now ≡ drop 1 self.old.left.now }
+    {
+        self.left.split_off_first().copied()
+    }
+
+    // Reads an octet.
+    pub fn octet(&mut self) -> u8
+        ensures value { result ≡ slice_index_or self.old.left.now 0 0 }
+        ensures left { self.new.left.now ≡ drop 1 self.old.left.now }
+    {
+        self.letter().unwrap_or(0)
+    }
+
+    // Reads a number in two octets, low octet first.
+    pub fn two(&mut self) -> u16
+        ensures left { self.new.left.now ≡ drop 2 self.old.left.now }
+    {
+        u16::from_le_bytes([self.octet(), self.octet()])
+    }
+
+    // Reads a number in four octets, low octet first.
+    pub fn four(&mut self) -> u32
+        ensures left { self.new.left.now ≡ drop 4 self.old.left.now }
+    {
+        u32::from_le_bytes([self.octet(), self.octet(), self.octet(), self.octet()])
+    }
+
+    // Reads a length in two octets.
+    pub fn length_in_two(&mut self) -> usize
+        ensures left { self.new.left.now ≡ drop 2 self.old.left.now }
+    {
+        usize::from(self.two())
+    }
+
+    // Reads a length in four octets.
+    pub fn length_in_four(&mut self) -> usize
+        ensures left { self.new.left.now ≡ drop 4 self.old.left.now }
+    {
+        self.four() as usize
+    }
+
+    // Reads so many octets, or all that are left and gives none where the script ends before.
+    pub fn part(&mut self, count: usize) -> &'a [u8]
+        ensures left { self.new.left.now ≡ drop count self.old.left.now }
+    {
+        match self.left.split_off(..count) {
+            Some(part) => part,
+            None => {
+                self.left = &[];
+                &[]
+            }
         }
     }
-    script.len()
-}
-
-// The number in two octets, low octet first.
-pub fn two(script: &[u8], at: usize) -> u16 {
-    let low = octet(script, at) as u16;
-    let high = octet(script, past(script, at, 1)) as u16;
-    low + 256 * high
-}
-
-// The number in four octets, low octet first.
-pub fn four(script: &[u8], at: usize) -> u32 {
-    let low = two(script, at) as u32;
-    let high = two(script, past(script, at, 2)) as u32;
-    low + 65536 * high
-}
-
-// A length in two octets.
-pub fn length_in_two(script: &[u8], at: usize) -> usize {
-    two(script, at) as usize
-}
-
-// A length in four octets.
-pub fn length_in_four(script: &[u8], at: usize) -> usize {
-    four(script, at) as usize
-}
-
-// So many octets from a position on, or none where the script ends before.
-pub fn part(script: &[u8], at: usize, count: usize) -> &[u8] {
-    if at <= script.len() {
-        if count <= script.len() - at {
-            return &script[at..at + count];
-        }
-    }
-    &script[..0]
 }

@@ -1,49 +1,30 @@
 // A batch of point records that differ in address and value, made from its first record.
-use crate::memory::put;
-use crate::reading::{four, octet, past};
 
-// Octets of a record; where its IOA and its value begin.
-const RECORD: usize = 24;
+// Octets of a record; where its IOA begins and ends, and where its value begins.
+pub const RECORD: usize = 24;
 
 const ADDRESS: usize = 2;
 
+const ADDRESS_END: usize = 6;
+
 const VALUE: usize = 12;
 
-// The octet that follows another at the same place of the next record, which has this IOA.
-fn following(before: u8, place: usize, ioa: u32) -> u8 {
-    if VALUE <= place {
-        return before.wrapping_add(1);
+// The record that follows another: to the IOA and to each octet of the value 1 is added.
+fn following(record: [u8; RECORD]) -> [u8; RECORD] {
+    let mut next = record;
+    let ioa = u32::from_le_bytes([record[2], record[3], record[4], record[5]]).wrapping_add(1);
+    next[ADDRESS..ADDRESS_END].copy_from_slice(&ioa.to_le_bytes());
+    for octet in &mut next[VALUE..] {
+        *octet = octet.wrapping_add(1);
     }
-    if place == ADDRESS {
-        return (ioa % 256) as u8;
-    }
-    if place == ADDRESS + 1 {
-        return (ioa / 256 % 256) as u8;
-    }
-    if place == ADDRESS + 2 {
-        return (ioa / 65536 % 256) as u8;
-    }
-    if place == ADDRESS + 3 {
-        return (ioa / 16777216) as u8;
-    }
-    before
+    next
 }
 
-// Writes one record: to the IOA and to each octet of the value of another one 1 is added.
-fn next_record(batch: &mut [u8], from: usize, to: usize) {
-    let ioa = four(batch, past(batch, from, ADDRESS)).wrapping_add(1);
-    for place in 0..RECORD {
-        let before = octet(batch, past(batch, from, place));
-        put(batch, past(batch, to, place), following(before, place, ioa));
-    }
-}
-
-// Makes a series of so many records of the one that stands first.
-pub fn series(batch: &mut [u8], count: usize) {
-    let mut from = 0;
-    for _made in 1..count {
-        let to = past(batch, from, RECORD);
-        next_record(batch, from, to);
-        from = to;
+// Fills a batch with the series that one record begins.
+pub fn series(first: [u8; RECORD], batch: &mut [u8]) {
+    let mut record = first;
+    for place in batch.chunks_exact_mut(RECORD) {
+        place.copy_from_slice(&record);
+        record = following(record);
     }
 }
