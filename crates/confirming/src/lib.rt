@@ -40,12 +40,7 @@ pub fn echo(answer: &mut [u8], asked: Asked, negative: bool) -> Result<Written, 
     if answer.len() < asked.asdu.len() {
         return Err(Refusal::AnswerShort);
     }
-    Written::given(confirmation::put_echo(
-        answer,
-        asked,
-        cot::ACTIVATION_CONFIRMATION,
-        negative,
-    ))
+    Written::given(confirmation::put_echo(answer, asked, cot::ACTIVATION_CONFIRMATION, negative))
 }
 
 // Writes a termination into what remains of the answer memory from `at`.
@@ -53,12 +48,7 @@ fn put_termination(answer: &mut [u8], at: usize, first: Confirmable)
     requires { at + (first_element + first.command.element) ≤ length answer.old }
     ensures { answer.new ≡ over answer.old at (asdu_octets (terminated first.entry.command first.entry.asdu.now)) }
 {
-    confirmation::put_confirmation(
-        &mut answer[at..],
-        first,
-        cot::ACTIVATION_TERMINATION,
-        false,
-    );
+    confirmation::put_confirmation(&mut answer[at..], first, cot::ACTIVATION_TERMINATION, false);
 }
 
 // Data between confirmation and termination: the selected points that the command's CA speaks of.

@@ -12,9 +12,9 @@ ghost use Rattle.answers.specs.System.{qualifier_of, interrogated, choice_of, ch
 ghost use Rattle.interrogations.specs.Interrogations.{CauseOf};
 
 use answers::Written;
-use limits::outcome::Refusal;
 use asdu::asked::Confirmable;
 use asdu::cot;
+use limits::outcome::Refusal;
 use limits::size::{ADDRESS_OCTETS, HEADER_OCTETS};
 use model::{M_IT_NA_1, M_IT_TB_1};
 use report::Selection;
@@ -102,7 +102,11 @@ fn answer_to(
 }
 
 // The answer to an interrogation.
-pub fn handle_interrogation(answer: &mut [u8], table: &[u8], first: Confirmable) -> Result<Written, Refusal>
+pub fn handle_interrogation(
+    answer: &mut [u8],
+    table: &[u8],
+    first: Confirmable,
+) -> Result<Written, Refusal>
     requires { (well_formed table.now ≡ true) × (first_element < length first.asdu.now) }
     ensures { Sends (interrogation_answer first.entry.command first.entry.asdu.now (table_of table.now)) answer.old (answered result) answer.new }
 {
@@ -121,7 +125,12 @@ pub fn handle_interrogation(answer: &mut [u8], table: &[u8], first: Confirmable)
 // ---- counters
 
 // Actions 2 and 3 of a counter interrogation set what was reported to 0; 0 and 1, and a choice that was denied, change nothing.
-fn apply_counter_freeze_qualifier(table: &mut [u8], ca: u16, choice: Option<Selection>, qualifier: u8)
+fn apply_counter_freeze_qualifier(
+    table: &mut [u8],
+    ca: u16,
+    choice: Option<Selection>,
+    qualifier: u8,
+)
     requires { well_formed table.old ≡ true }
     ensures { table.new ≡ with_table (λ t. pick (resets qualifier) (reset_by t ca choice) t) table.old }
 {

@@ -41,9 +41,7 @@ fn handle_read(answer: &mut [u8], table: &[u8], asked: Asked) -> Result<Written,
         return Err(Refusal::AnswerShort);
     }
     confirmation::put_echo(answer, asked, cot::ACTIVATION_CONFIRMATION, false);
-    Written::given(read_data::put_requested(
-        answer, before, table, seat.first, seat.held, asked,
-    ))
+    Written::given(read_data::put_requested(answer, before, table, seat.first, seat.held, asked))
 }
 
 // ---- the clock

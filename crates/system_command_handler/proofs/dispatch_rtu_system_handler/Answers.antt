@@ -70,9 +70,6 @@ returns-then-kind-eq-C_CI_NA_1 c =
     (e.table_after ∙ (λ j. pick (sym d j) (holding t (table_of t) (after_counters (table_of t) a.asked.command.ca (qualifier_of a.asked.asdu.now))) t) ∙ ap (λ (u : Table). pick b (holding t (table_of t) u) t) (sym (ap (λ (s : Said). s.after) S)))
     (same_clock b a.clock.now ∙ ap (λ (k : List ℕ). pick b k a.clock.now) (sym (ap (λ (s : Said). s.clock) S))))
 
-pub handle_read-requires : goal.handle_read-requires
-handle_read-requires c = (c.requires.0, c.requires.2)
-
 pub returns-then-kind-eq-C_RD_NA_1 : goal.returns-then-kind-eq-C_RD_NA_1
 returns-then-kind-eq-C_RD_NA_1 c =
     let a = c.args in

@@ -5,13 +5,11 @@ use mathlib.Core.List.{[]}
 use Rattle.std.specs.Prelude.{Err, is_some}
 use Rattle.limits.specs.declared.outcome.Refusal.TheVariants.{Silent}
 use Rattle.table.specs.Memory.{table_of}
-use Rattle.table.specs.Settings.{limit_of}
 use Rattle.asdu.proofs.Reading.{no_first, has_first}
 use Rattle.answers.specs.Said.{lent}
 use Rattle.answers.specs.System.{system_said, is_silent}
 use Rattle.answers.proofs.Ends.{ends_refused, ends_alike}
-use Rattle.system_command_handler.proofs.Ways.{sizes_of, silent_none, silent_some, silent_says, taken_says}
-use native.Mathlib.Omega.{arith}
+use Rattle.system_command_handler.proofs.Ways.{silent_none, silent_some, silent_says, taken_says}
 use Rattle.system_command_handler.proofs.handle_ingress_asdu.Goals as goal
 use Rattle.system_command_handler.proofs.handle_ingress_asdu.Goals.{Start}
 

@@ -1,7 +1,7 @@
 -- No station, an address missing, or every address known. Assumes nothing.
 use Rattle.std.specs.Prelude.{Some}
 use mathlib.Core.Path.{◌≡◌, sym, ap, ◌∙◌}
-use Prim.Native.Nat.{ℕ, ◌+◌, ◌*◌, ◌≤◌}
+use Prim.Native.Nat.{◌+◌, ◌*◌, ◌≤◌}
 use lib.ListN.{length}
 use Rattle.octets.specs.Number.{Octets}
 use Rattle.table.proofs.Parse.{passed}

@@ -1,6 +1,6 @@
 -- Count 0 has no first object; otherwise the objects reach past octet 9.
 use borrow.Author.Tests.{eq-eqb, ne_eqb}
-use Rattle.std.specs.Prelude.{Some, None}
+use Rattle.std.specs.Prelude.{Some}
 use Rattle.asdu.proofs.asked.Asked.first_object.Goals as goal
 
 pub returns-then-self-eq0 : goal.returns-then-self-eq0
