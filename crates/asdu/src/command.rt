@@ -1,7 +1,7 @@
-// A command as it is read from its octets, and its first object.
-ghost use Rattle.std.specs.Prelude.{◌≡◌, ◌+◌, ◌*◌, ◌≤◌, length};
+// A command as it is read from its octets.
+ghost use Rattle.std.specs.Prelude.{◌≡◌, ◌≤◌, length};
 ghost use Rattle.limits.specs.Size.{class_of, header_octets};
-ghost use Rattle.asdu.specs.Command.{is_system, is_process, serves, length_ok, object_at, whole_objects, command_in, read_as, refusal_of, first_object};
+ghost use Rattle.asdu.specs.Command.{is_system, is_process, serves, length_ok, whole_objects, command_in, read_as, refusal_of};
 
 use limits::outcome::Refusal;
 use limits::size::{ADDRESS_OCTETS, CONTROL_OCTETS, Class, HEADER_OCTETS};
@@ -125,18 +125,4 @@ pub fn parse(asdu: &[u8], entry: Entry, limit: usize) -> Result<Command, Unread>
         return Err(Unread::ObjectsNotWhole);
     }
     Ok(command_in(asdu))
-}
-
-// The first object of a command whose objects lie in `asdu`: its address and where its element lies; or none.
-pub fn first_object(command: Command, asdu: &[u8]) -> Option<(usize, usize)>
-    requires { object_at command.element command.count ≤ length asdu.now }
-    ensures { result ≡ first_object command asdu.now }
-{
-    if command.count == 0 {
-        return None;
-    }
-    Some((
-        octets::number_at::<3>(asdu, HEADER_OCTETS),
-        HEADER_OCTETS + ADDRESS_OCTETS,
-    ))
 }

@@ -2,10 +2,11 @@
 ghost use Rattle.std.specs.Prelude.{◌≡◌, ◌++◌, ◌+◌, ◌≤◌, ◌<◌, length};
 ghost use Rattle.limits.specs.Size.{header_octets};
 ghost use Rattle.asdu.specs.Header.{header, asdu_octets};
-ghost use Rattle.asdu.specs.Command.{first_element, object_at};
+ghost use Rattle.asdu.specs.Command.{first_element};
 ghost use Rattle.asdu.specs.Confirmation.{reply_to, confirmation, echo};
 ghost use Rattle.asdu.specs.Puts.{Puts};
 
+use crate::asked::{Asked, Confirmable};
 use crate::command::Command;
 use crate::header;
 use crate::header::Header;
@@ -44,42 +45,35 @@ pub fn put_reply(
 }
 
 // Writes a confirmation or termination with the first object alone at the front of `out`.
-pub fn put_confirmation(
-    out: &mut [u8],
-    command: Command,
-    asdu: &[u8],
-    cause: u8,
-    negative: bool,
-) -> usize
-    requires { (cause < 64) × (first_element + command.element ≤ length asdu.now) × (first_element + command.element ≤ length out.old) }
-    ensures { Puts (asdu_octets (confirmation command asdu.now cause negative)) out.old result out.new }
+pub fn put_confirmation(out: &mut [u8], first: Confirmable, cause: u8, negative: bool) -> usize
+    requires { (cause < 64) × (first_element + first.command.element ≤ length out.old) }
+    ensures { Puts (asdu_octets (confirmation first.entry.command first.entry.asdu.now cause negative)) out.old result out.new }
 {
     let start = HEADER_OCTETS;
-    let end = start + (ADDRESS_OCTETS + command.element);
+    let end = start + (ADDRESS_OCTETS + first.command.element);
     put_reply(
         out,
-        command,
-        command.kind,
+        first.command,
+        first.command.kind,
         1,
         cause,
         negative,
-        &asdu[start..end],
+        &first.asdu[start..end],
     )
 }
 
 // Writes a confirmation that echoes all objects at the front of `out`.
-pub fn put_echo(out: &mut [u8], command: Command, asdu: &[u8], cause: u8, negative: bool) -> usize
-    requires { (cause < 64) × (length asdu.now ≡ object_at command.element command.count) × (length asdu.now ≤ length out.old) }
-    ensures { Puts (asdu_octets (echo command asdu.now cause negative)) out.old result out.new }
+pub fn put_echo(out: &mut [u8], asked: Asked, cause: u8, negative: bool) -> usize
+    requires { (cause < 64) × (length asked.asdu.now ≤ length out.old) }
+    ensures { Puts (asdu_octets (echo asked.entry.command asked.entry.asdu.now cause negative)) out.old result out.new }
 {
-    let start = HEADER_OCTETS;
     put_reply(
         out,
-        command,
-        command.kind,
-        command.count,
+        asked.command,
+        asked.command.kind,
+        asked.command.count,
         cause,
         negative,
-        &asdu[start..],
+        &asked.asdu[HEADER_OCTETS..],
     )
 }

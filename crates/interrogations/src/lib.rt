@@ -9,11 +9,11 @@ ghost use Rattle.asdu.specs.Command.{first_element};
 ghost use Rattle.output.specs.Data.{TypesOk};
 ghost use Rattle.answers.specs.Said.{answered, Sends, with_table};
 ghost use Rattle.answers.specs.System.{qualifier_of, interrogated, choice_of, chosen, counter_cause, resets, reset_by, answer_to, interrogation_answer, counter_answer, after_counters};
-ghost use Rattle.confirming.specs.Sending.{HasFirst};
-ghost use Rattle.interrogations.specs.Interrogations.{CauseOf, HasQualifier};
+ghost use Rattle.interrogations.specs.Interrogations.{CauseOf};
 
 use answers::Written;
 use asdu::command::Command;
+use asdu::asked::Confirmable;
 use asdu::cot;
 use limits::outcome::Refusal;
 use limits::size::{ADDRESS_OCTETS, HEADER_OCTETS};
@@ -91,38 +91,35 @@ fn answer_to(
     types: &[u8],
     cause: u8,
     choice: Option<Selection>,
-    command: Command,
-    asdu: &[u8],
+    first: Confirmable,
 ) -> Result<Written, Refusal>
-    requires { (well_formed table.now ≡ true) × TypesOk types.now × CauseOf choice cause × HasFirst command asdu.now }
-    ensures { Sends (answer_to (table_of table.now) command asdu.now types.now cause choice) answer.old (answered result) answer.new }
+    requires { (well_formed table.now ≡ true) × TypesOk types.now × CauseOf choice cause }
+    ensures { Sends (answer_to (table_of table.now) first.entry.command first.entry.asdu.now types.now cause choice) answer.old (answered result) answer.new }
 {
     let Some(selection) = choice else {
-        return confirming::deny(answer, command, asdu);
+        return confirming::deny(answer, first);
     };
-    confirming::report(answer, table, types, cause, selection, command, asdu)
+    confirming::report(answer, table, types, cause, selection, first)
 }
 
 // The answer to an interrogation.
 pub fn handle_interrogation(
     answer: &mut [u8],
     table: &[u8],
-    command: Command,
-    asdu: &[u8],
+    first: Confirmable,
 ) -> Result<Written, Refusal>
-    requires { (well_formed table.now ≡ true) × HasQualifier command asdu.now }
-    ensures { Sends (interrogation_answer command asdu.now (table_of table.now)) answer.old (answered result) answer.new }
+    requires { (well_formed table.now ≡ true) × (first_element < length first.asdu.now) }
+    ensures { Sends (interrogation_answer first.entry.command first.entry.asdu.now (table_of table.now)) answer.old (answered result) answer.new }
 {
     let types = settings::interrogation_types_of(table);
-    let qualifier = qualifier_of(asdu);
+    let qualifier = qualifier_of(first.asdu);
     answer_to(
         answer,
         table,
         &types,
         qualifier,
         interrogated(qualifier),
-        command,
-        asdu,
+        first,
     )
 }
 
@@ -152,18 +149,17 @@ fn apply_counter_freeze_qualifier(
 pub fn handle_counter_interrogation(
     table: &mut [u8],
     answer: &mut [u8],
-    command: Command,
-    asdu: &[u8],
+    first: Confirmable,
 ) -> Result<Written, Refusal>
-    requires { (well_formed table.old ≡ true) × HasQualifier command asdu.now }
-    ensures sends { Sends (counter_answer command asdu.now (table_of table.old)) answer.old (answered result) answer.new }
-    ensures table_after { table.new ≡ pick (is_ok result) (with_table (λ t. after_counters t command.ca (qualifier_of asdu.now)) table.old) table.old }
+    requires { (well_formed table.old ≡ true) × (first_element < length first.asdu.now) }
+    ensures sends { Sends (counter_answer first.entry.command first.entry.asdu.now (table_of table.old)) answer.old (answered result) answer.new }
+    ensures table_after { table.new ≡ pick (is_ok result) (with_table (λ t. after_counters t first.entry.command.ca (qualifier_of first.entry.asdu.now)) table.old) table.old }
 {
     let types = [M_IT_NA_1, M_IT_TB_1];
-    let qualifier = qualifier_of(asdu);
+    let qualifier = qualifier_of(first.asdu);
     let choice = chosen(qualifier);
     let cause = counter_interrogation_data_cot(qualifier);
-    let written = answer_to(answer, table, &types, cause, choice, command, asdu)?;
-    apply_counter_freeze_qualifier(table, command.ca, choice, qualifier);
+    let written = answer_to(answer, table, &types, cause, choice, first)?;
+    apply_counter_freeze_qualifier(table, first.command.ca, choice, qualifier);
     Ok(written)
 }

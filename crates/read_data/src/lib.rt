@@ -2,16 +2,15 @@
 #![tactic(auto)]
 
 ghost use Rattle.std.specs.Prelude.{◌≡◌, ◌+◌, ◌*◌, ◌≤◌, length};
-ghost use Rattle.limits.specs.Size.{header_octets, count_limit};
+ghost use Rattle.limits.specs.Size.{header_octets};
 ghost use Rattle.layout.specs.Layout.{place_size};
 ghost use Rattle.asdu.specs.Header.{wire};
-ghost use Rattle.asdu.specs.Command.{object_at};
 ghost use Rattle.asdu.specs.Puts.{PutsAt};
 ghost use Rattle.lookup.specs.Find.{find_at};
 ghost use Rattle.answers.specs.Said.{size};
 ghost use Rattle.read_data.specs.Reads.{asked_of, asked_at, requested_of, requested_by};
 
-use asdu::command::Command;
+use asdu::asked::Asked;
 use asdu::cot::REQUEST;
 use limits::size::{ADDRESS_OCTETS, HEADER_OCTETS};
 
@@ -30,13 +29,13 @@ fn found_octets(m: &[u8], first: usize, h: usize, ioa: usize) -> Option<usize>
 // The octets of the requested ASDUs of a command's objects, repeats included, from the h places from `first`; none if an object has an address that no
 // point has.
 #[tactic(auto, using(crate::proofs::Turns::asked_small, crate::proofs::Turns::asked_on, crate::proofs::Turns::asked_missing, crate::proofs::Turns::asked_end))]
-pub fn read_octets(m: &[u8], first: usize, h: usize, command: Command, asdu: &[u8]) -> Option<usize>
-    requires { (first + place_size * h ≤ length m.now) × (object_at 0 command.count ≤ length asdu.now) × (command.count ≤ count_limit) }
-    ensures { result ≡ asked_at m.now first h asdu.now header_octets command.count }
+pub fn read_octets(m: &[u8], first: usize, h: usize, asked: Asked) -> Option<usize>
+    requires { first + place_size * h ≤ length m.now }
+    ensures { result ≡ asked_at m.now first h asked.entry.asdu.now header_octets asked.entry.command.count }
 {
     let mut octets = 0;
-    for i in 0..usize::from(command.count) {
-        let ioa = octets::number_at::<3>(asdu, HEADER_OCTETS + ADDRESS_OCTETS * i);
+    for i in 0..usize::from(asked.command.count) {
+        let ioa = octets::number_at::<3>(asked.asdu, HEADER_OCTETS + ADDRESS_OCTETS * i);
         octets += found_octets(m, first, h, ioa)?;
     }
     Some(octets)
@@ -71,17 +70,16 @@ pub fn put_requested(
     m: &[u8],
     first: usize,
     h: usize,
-    command: Command,
-    asdu: &[u8],
+    asked: Asked,
 ) -> usize
-    requires inside { (first + place_size * h ≤ length m.now) × (object_at 0 command.count ≤ length asdu.now) }
-    requires fits { from + size (requested_by m.now first h command asdu.now) ≤ length out.old }
-    ensures { PutsAt from (wire (requested_by m.now first h command asdu.now)) out.old result out.new }
+    requires inside { first + place_size * h ≤ length m.now }
+    requires fits { from + size (requested_by m.now first h asked.command asked.asdu.now) ≤ length out.old }
+    ensures { PutsAt from (wire (requested_by m.now first h asked.entry.command asked.entry.asdu.now)) out.old result out.new }
 {
     let mut o = from;
-    for i in 0..usize::from(command.count) {
-        let ioa = octets::number_at::<3>(asdu, HEADER_OCTETS + ADDRESS_OCTETS * i);
-        o = put_found(out, o, m, first, h, ioa, command.ca);
+    for i in 0..usize::from(asked.command.count) {
+        let ioa = octets::number_at::<3>(asked.asdu, HEADER_OCTETS + ADDRESS_OCTETS * i);
+        o = put_found(out, o, m, first, h, ioa, asked.command.ca);
     }
     o
 }

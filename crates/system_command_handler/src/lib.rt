@@ -4,17 +4,17 @@
 
 ghost use Rattle.std.specs.Prelude.{◌≡◌, true, false, [], ◌∷◌, ◌+◌, ◌≤◌, ◌<◌, length, is_ok, Ok};
 ghost use Rattle.limits.specs.Test.{pick};
-ghost use Rattle.limits.specs.Size.{count_limit};
 ghost use Rattle.table.specs.Memory.{well_formed, table_of};
 ghost use Rattle.table.specs.Settings.{limit_of};
-ghost use Rattle.asdu.specs.Command.{read_as, object_at, first_element};
+ghost use Rattle.asdu.specs.Command.{read_as, first_element};
 ghost use Rattle.asdu.specs.declared.command.Entry.TheVariants.{SystemCommands};
 ghost use Rattle.answers.specs.Said.{answered, as_it_is, Leaves, Sends};
 ghost use Rattle.answers.specs.System.{echoed, points_read, read_answer, clock_from, cause_taken, command_said, system_said};
 ghost use Rattle.system_command_handler.specs.Handler.{at_entry, at_exit, is_skipped};
 
 use answers::Written;
-use asdu::command::{Command, Entry};
+use asdu::asked::{Asked, Confirmable};
+use asdu::command::Entry;
 use asdu::types_id::{C_CI_NA_1, C_CS_NA_1, C_IC_NA_1, C_RD_NA_1};
 use asdu::{confirmation, cot};
 use limits::outcome::Refusal;
@@ -24,32 +24,25 @@ use limits::size::{ADDRESS_OCTETS, HEADER_OCTETS};
 
 // The echo of all objects, negative where an address is missing; else one ASDU for each object, in the command's order.
 #[tactic(auto, using(lookup::proofs::Laws::seats_readable, lookup::proofs::Laws::places_readable))]
-fn handle_read(
-    answer: &mut [u8],
-    table: &[u8],
-    command: Command,
-    asdu: &[u8],
-) -> Result<Written, Refusal>
-    requires { (well_formed table.now ≡ true) × (0 < command.count) × (command.count ≤ count_limit) × (command.element ≡ 0) × (length asdu.now ≡ object_at 0 command.count) }
-    ensures { Sends (read_answer command asdu.now (points_read command asdu.now (table_of table.now))) answer.old (answered result) answer.new }
+fn handle_read(answer: &mut [u8], table: &[u8], asked: Asked) -> Result<Written, Refusal>
+    requires { (well_formed table.now ≡ true) × (0 < asked.command.count) }
+    ensures { Sends (read_answer asked.entry.command asked.entry.asdu.now (points_read asked.entry.command asked.entry.asdu.now (table_of table.now))) answer.old (answered result) answer.new }
 {
-    let Some(seat) = lookup::seat_at(table, command.ca as usize) else {
-        return confirming::echo(answer, command, asdu, true);
+    let Some(seat) = lookup::seat_at(table, asked.command.ca as usize) else {
+        return confirming::echo(answer, asked, true);
     };
-    let Some(octets) = read_data::read_octets(table, seat.first, seat.held, command, asdu) else {
-        return confirming::echo(answer, command, asdu, true);
+    let Some(octets) = read_data::read_octets(table, seat.first, seat.held, asked) else {
+        return confirming::echo(answer, asked, true);
     };
-    let before = asdu.len();
+    let before = asked.asdu.len();
     if answer.len() < before {
         return Err(Refusal::AnswerShort);
     }
     if answer.len() - before < octets {
         return Err(Refusal::AnswerShort);
     }
-    confirmation::put_echo(answer, command, asdu, cot::ACTIVATION_CONFIRMATION, false);
-    Written::given(read_data::put_requested(
-        answer, before, table, seat.first, seat.held, command, asdu,
-    ))
+    confirmation::put_echo(answer, asked, cot::ACTIVATION_CONFIRMATION, false);
+    Written::given(read_data::put_requested(answer, before, table, seat.first, seat.held, asked))
 }
 
 // ---- the clock
@@ -69,15 +62,14 @@ fn clock_of(asdu: &[u8]) -> [u8; 8]
 fn handle_clock_sync(
     answer: &mut [u8],
     clock: &mut [u8; 8],
-    command: Command,
-    asdu: &[u8],
+    asked: Asked,
 ) -> Result<Written, Refusal>
-    requires { (length asdu.now ≡ object_at command.element command.count) × (first_element + 7 ≤ length asdu.now) }
-    ensures sends { Sends (echoed command asdu.now false ∷ []) answer.old (answered result) answer.new }
-    ensures clock_value { clock.new ≡ pick (is_ok result) (clock_from asdu.now) clock.old }
+    requires { first_element + 7 ≤ length asked.asdu.now }
+    ensures sends { Sends (echoed asked.entry.command asked.entry.asdu.now false ∷ []) answer.old (answered result) answer.new }
+    ensures clock_value { clock.new ≡ pick (is_ok result) (clock_from asked.entry.asdu.now) clock.old }
 {
-    let written = confirming::echo(answer, command, asdu, false)?;
-    *clock = clock_of(asdu);
+    let written = confirming::echo(answer, asked, false)?;
+    *clock = clock_of(asked.asdu);
     Ok(written)
 }
 
@@ -97,19 +89,19 @@ fn is_system_command_cot(kind: u8, cause: u8) -> bool
 }
 
 // Is a command with a first object passed over? A cause that is not taken, or an interrogation with qualifier 0.
-fn is_skipped(command: Command, asdu: &[u8]) -> bool
-    ensures { result ≡ is_skipped command asdu.now }
+fn is_skipped(asked: Asked) -> bool
+    ensures { result ≡ is_skipped asked.entry.command asked.entry.asdu.now }
 {
-    if !is_system_command_cot(command.kind, command.cause) {
+    if !is_system_command_cot(asked.command.kind, asked.command.cause) {
         return true;
     }
-    if command.kind != C_IC_NA_1 {
+    if asked.command.kind != C_IC_NA_1 {
         return false;
     }
-    if asdu.len() <= HEADER_OCTETS + ADDRESS_OCTETS {
+    if asked.asdu.len() <= HEADER_OCTETS + ADDRESS_OCTETS {
         return true;
     }
-    interrogations::qualifier_of(asdu) == 0
+    interrogations::qualifier_of(asked.asdu) == 0
 }
 
 // ---- the entry
@@ -118,19 +110,22 @@ fn is_skipped(command: Command, asdu: &[u8]) -> bool
 fn dispatch_rtu_system_handler(
     table: &mut [u8],
     clock: &mut [u8; 8],
-    asdu: &[u8],
+    asked: Asked,
     answer: &mut [u8],
-    command: Command,
 ) -> Result<Written, Refusal>
-    requires { (well_formed table.old ≡ true) × (read_as (limit_of (table_of table.old)) SystemCommands asdu.now ≡ Ok command) × (0 < command.count) }
-    ensures { Leaves as_it_is (command_said clock.old asdu.now command) (at_entry table clock.old answer) (answered result) (at_exit table clock.new answer) }
+    requires { (well_formed table.old ≡ true) × (read_as (limit_of (table_of table.old)) SystemCommands asked.asdu.now ≡ Ok asked.command) × (0 < asked.command.count) }
+    ensures { Leaves as_it_is (command_said clock.old asked.entry.asdu.now asked.entry.command) (at_entry table clock.old answer) (answered result) (at_exit table clock.new answer) }
 {
-    match command.kind {
-        C_IC_NA_1 => interrogations::handle_interrogation(answer, table, command, asdu),
-        C_CI_NA_1 => interrogations::handle_counter_interrogation(table, answer, command, asdu),
-        C_RD_NA_1 => handle_read(answer, table, command, asdu),
-        C_CS_NA_1 => handle_clock_sync(answer, clock, command, asdu),
-        _ => confirming::echo(answer, command, asdu, false),
+    let first = Confirmable {
+        command: asked.command,
+        asdu: asked.asdu,
+    };
+    match asked.command.kind {
+        C_IC_NA_1 => interrogations::handle_interrogation(answer, table, first),
+        C_CI_NA_1 => interrogations::handle_counter_interrogation(table, answer, first),
+        C_RD_NA_1 => handle_read(answer, table, asked),
+        C_CS_NA_1 => handle_clock_sync(answer, clock, asked),
+        _ => confirming::echo(answer, asked, false),
     }
 }
 
@@ -138,20 +133,19 @@ fn dispatch_rtu_system_handler(
 fn handle_ingress_asdu(
     table: &mut [u8],
     clock: &mut [u8; 8],
-    asdu: &[u8],
+    asked: Asked,
     answer: &mut [u8],
-    command: Command,
 ) -> Result<Written, Refusal>
-    requires { (well_formed table.old ≡ true) × (read_as (limit_of (table_of table.old)) SystemCommands asdu.now ≡ Ok command) }
-    ensures { Leaves as_it_is (system_said clock.old asdu.now) (at_entry table clock.old answer) (answered result) (at_exit table clock.new answer) }
+    requires { (well_formed table.old ≡ true) × (read_as (limit_of (table_of table.old)) SystemCommands asked.asdu.now ≡ Ok asked.command) }
+    ensures { Leaves as_it_is (system_said clock.old asked.entry.asdu.now) (at_entry table clock.old answer) (answered result) (at_exit table clock.new answer) }
 {
-    if asdu::command::first_object(command, asdu).is_none() {
+    if asked.first_object().is_none() {
         return Err(Refusal::Silent);
     }
-    if is_skipped(command, asdu) {
+    if is_skipped(asked) {
         return Err(Refusal::Silent);
     }
-    dispatch_rtu_system_handler(table, clock, asdu, answer, command)
+    dispatch_rtu_system_handler(table, clock, asked, answer)
 }
 
 // The entry for system commands: 3; then 2, 1 and 2 of the reading; then the silent rules; then the answer, or 4. `clock` is the last master clock,
@@ -169,5 +163,6 @@ pub fn system_command(
     }
     let limit = settings::limit_of(table);
     let command = asdu::command::parse(asdu, Entry::SystemCommands, limit)?;
-    handle_ingress_asdu(table, clock, asdu, answer, command)
+    let asked = Asked { command, asdu };
+    handle_ingress_asdu(table, clock, asked, answer)
 }

@@ -6,21 +6,21 @@ use Rattle.answers.proofs.Ends.{one_nothing, one_all}
 use native.Mathlib.Omega.{arith}
 use Rattle.confirming.proofs.deny.Goals as goal
 
-pub returns-then-answer-command : goal.returns-then-answer-command
-returns-then-answer-command c =
+pub returns-then-answer-first : goal.returns-then-answer-first
+returns-then-answer-first c =
     let a = c.args in
-    let l = length_confirmation a.command a.asdu.now 7 true c.requires.1 in
-    (one_nothing (denied a.command a.asdu.now) a.answer.now (omega arith))
+    let l = length_confirmation a.first.command a.first.asdu.now 7 true a.first.inside in
+    (one_nothing (denied a.first.command a.first.asdu.now) a.answer.now (omega arith))
 
 pub put_confirmation-requires : goal.put_confirmation-requires
 put_confirmation-requires c =
     let a = c.args in
-    let l = length_confirmation a.command a.asdu.now 7 true c.requires.1 in
-    (omega arith, c.requires.1, omega arith)
+    let l = length_confirmation a.first.command a.first.asdu.now 7 true a.first.inside in
+    (omega arith, omega arith)
 
 pub returns : goal.returns
 returns c =
     let a = c.args in
-    let l = length_confirmation a.command a.asdu.now 7 true c.requires.1 in
+    let l = length_confirmation a.first.command a.first.asdu.now 7 true a.first.inside in
     let e = c.put_confirmation.ensures in
-    rw c.given.ensures (one_all (denied a.command a.asdu.now) a.answer.now _ _ (omega arith) e.0 e.1)
+    rw c.given.ensures (one_all (denied a.first.command a.first.asdu.now) a.answer.now _ _ (omega arith) e.0 e.1)

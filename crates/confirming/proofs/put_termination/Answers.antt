@@ -10,11 +10,11 @@ use Rattle.confirming.proofs.put_termination.Goals as goal
 pub put_confirmation-requires : goal.put_confirmation-requires
 put_confirmation-requires c =
     let a = c.args in
-    let l = length_confirmation a.command a.asdu.now 10 false c.requires.0.1 in
-    (omega arith, c.requires.0.1, omega arith)
+    let l = length_confirmation a.first.command a.first.asdu.now 10 false a.first.inside in
+    (omega arith, omega arith)
 
 pub returns : goal.returns
 returns c =
     let a = c.args in
-    let l = length_confirmation a.command a.asdu.now 10 false c.requires.0.1 in
-    rw c.put_confirmation.ensures.1 (lent_over a.answer.now (asdu_octets (terminated a.command a.asdu.now)) a.at (omega arith))
+    let l = length_confirmation a.first.command a.first.asdu.now 10 false a.first.inside in
+    rw c.put_confirmation.ensures.1 (lent_over a.answer.now (asdu_octets (terminated a.first.command a.first.asdu.now)) a.at (omega arith))

@@ -29,8 +29,8 @@ abbrev data_in : (t types : List ℕ) (cause ca : ℕ) → Selection → List �
 data_in t types cause ca s = wire (report (limit_of (table_of t)) types cause ca (selected (selects s) (points_for ca (table_of t).stations)))
 
 -- the data that are written are those
-same_data : (c : After-put_data) → (c.put_data.result ≡ wrote (length c.args.answer.now) (first_element + c.args.command.element) (first_element + c.args.command.element) (data_in c.args.table.now c.args.types.now c.args.cause c.args.command.ca c.args.selection))
-    × (c.put_data.new.out ≡ written c.args.answer.now (first_element + c.args.command.element) (first_element + c.args.command.element) (data_in c.args.table.now c.args.types.now c.args.cause c.args.command.ca c.args.selection))
+same_data : (c : After-put_data) → (c.put_data.result ≡ wrote (length c.args.answer.now) (first_element + c.args.first.command.element) (first_element + c.args.first.command.element) (data_in c.args.table.now c.args.types.now c.args.cause c.args.first.command.ca c.args.selection))
+    × (c.put_data.new.out ≡ written c.args.answer.now (first_element + c.args.first.command.element) (first_element + c.args.first.command.element) (data_in c.args.table.now c.args.types.now c.args.cause c.args.first.command.ca c.args.selection))
 same_data c =
     let a = c.args in
     let t = a.table.now in
@@ -39,19 +39,19 @@ same_data c =
     let n = c.limit_of-limit.ensures.0 in
     let d =
     ap wire
-    ((λ j. data_of (record { limit = n j; cause = a.cause; ca = a.command.ca }) a.types.now a.selection t r.result)
-    ∙ data_is (record { limit = limit_of (table_of t); cause = a.cause; ca = a.command.ca }) a.types.now a.selection t a.command.ca r.result r.ensures o c.requires.0) in
+    ((λ j. data_of (record { limit = n j; cause = a.cause; ca = a.first.command.ca }) a.types.now a.selection t r.result)
+    ∙ data_is (record { limit = limit_of (table_of t); cause = a.cause; ca = a.first.command.ca }) a.types.now a.selection t a.first.command.ca r.result r.ensures o c.requires.0) in
     let e = c.put_data.ensures in
     let out = a.answer.now in
-    (e.0 ∙ ap (wrote (length out) (first_element + c.args.command.element) (first_element + c.args.command.element)) d, e.1 ∙ ap (written out (first_element + c.args.command.element) (first_element + c.args.command.element)) d)
+    (e.0 ∙ ap (wrote (length out) (first_element + c.args.first.command.element) (first_element + c.args.first.command.element)) d, e.1 ∙ ap (written out (first_element + c.args.first.command.element) (first_element + c.args.first.command.element)) d)
 
 -- the whole fits
 room : (c : In-Some)
-    → c.put_data.result ≡ wrote (length c.args.answer.now) (first_element + c.args.command.element) (first_element + c.args.command.element) (data_in c.args.table.now c.args.types.now c.args.cause c.args.command.ca c.args.selection)
-    → (first_element + c.args.command.element) + (c.in-Some.octets + (first_element + c.args.command.element)) ≤ length c.args.answer.now
+    → c.put_data.result ≡ wrote (length c.args.answer.now) (first_element + c.args.first.command.element) (first_element + c.args.first.command.element) (data_in c.args.table.now c.args.types.now c.args.cause c.args.first.command.ca c.args.selection)
+    → (first_element + c.args.first.command.element) + (c.in-Some.octets + (first_element + c.args.first.command.element)) ≤ length c.args.answer.now
 room c d =
     let a = c.args in
-    has_room (table_of a.table.now) a.command a.asdu.now a.types.now a.cause a.selection a.answer.now c.requires.3.1 _
+    has_room (table_of a.table.now) a.first.command a.first.asdu.now a.types.now a.cause a.selection a.answer.now c.args.first.inside _
     (sym d ∙ c.in-Some.is)
 
 pub reach_of-reach-requires : goal.reach_of-reach-requires
@@ -66,7 +66,7 @@ put_data-requires c =
     let e = c.reach_of-reach.ensures in
     let eb = ap (λ (x : Reach). x.base) e in
     let en = ap (λ (x : Reach). x.n) e in
-    let z = reached t c.args.command.ca o c.requires.0 in
+    let z = reached t c.args.first.command.ca o c.requires.0 in
     let lies = z.lies in
     let few = z.few in
     let l = c.limit_of-limit.ensures in
@@ -77,13 +77,13 @@ pub returns-in_default : goal.returns-in_default
 returns-in_default c =
     let d = same_data (goal.at.returns-in_default c).After-put_data in
     let a = c.args in
-    (no_room (table_of a.table.now) a.command a.asdu.now a.types.now a.cause a.selection a.answer.now c.requires.3.1 (sym d.0 ∙ c.in_default.is) _ d.1)
+    (no_room (table_of a.table.now) a.first.command a.first.asdu.now a.types.now a.cause a.selection a.answer.now c.args.first.inside (sym d.0 ∙ c.in_default.is) _ d.1)
 
 pub put_confirmation-requires : goal.put_confirmation-requires
 put_confirmation-requires c =
     let fits = room (goal.at.put_confirmation-requires c).In-Some (same_data (goal.at.put_confirmation-requires c).After-put_data).0 in
-    let l = length_confirmation c.args.command c.args.asdu.now 7 false c.requires.3.1 in
-    (omega arith, c.requires.3.1, omega arith)
+    let l = length_confirmation c.args.first.command c.args.first.asdu.now 7 false c.args.first.inside in
+    (omega arith, omega arith)
 
 pub overflow_add-before-3 : goal.overflow_add-before-3
 overflow_add-before-3 c =
@@ -93,7 +93,7 @@ overflow_add-before-3 c =
 pub put_termination-requires : goal.put_termination-requires
 put_termination-requires c =
     let fits = room (goal.at.put_termination-requires c).In-Some (same_data (goal.at.put_termination-requires c).After-put_data).0 in
-    (c.requires.3, omega arith)
+    omega arith
 
 pub overflow_add-octets : goal.overflow_add-octets
 overflow_add-octets c =
@@ -110,4 +110,4 @@ returns c =
     let d = same_data (goal.at.returns c).After-put_data in
     let a = c.args in
     rw c.given.ensures
-    (all_written (table_of a.table.now) a.command a.asdu.now a.types.now a.cause a.selection a.answer.now c.requires.3.1 _ (sym d.0 ∙ c.in-Some.is) _ _ _ d.1 c.put_confirmation.ensures.1 c.put_termination.ensures)
+    (all_written (table_of a.table.now) a.first.command a.first.asdu.now a.types.now a.cause a.selection a.answer.now c.args.first.inside _ (sym d.0 ∙ c.in-Some.is) _ _ _ d.1 c.put_confirmation.ensures.1 c.put_termination.ensures)

@@ -14,7 +14,7 @@ answer_to-requires c =
     let t = table_of c.args.table.now in
     let types = c.interrogation_types_of-types.ensures in
     let q = c.qualifier_of-qualifier.result in
-    (c.requires.0, subst TypesOk (sym types) (interrogation_slots t), subst (λ (x : Choice). CauseOf x q) (sym c.interrogated.ensures) (interrogated_cause q), c.requires.1.0)
+    (c.requires.0, subst TypesOk (sym types) (interrogation_slots t), subst (λ (x : Choice). CauseOf x q) (sym c.interrogated.ensures) (interrogated_cause q))
 
 pub returns : goal.returns
 unfolding interrogation_answer
@@ -24,4 +24,4 @@ returns c =
     let types = c.interrogation_types_of-types.ensures in
     let q = c.qualifier_of-qualifier.ensures in
     let choice = c.interrogated.ensures ∙ ap interrogated q in
-    sends_along _ _ _ _ _ (λ j. answer_to t a.command a.asdu.now (types j) (q j) (choice j)) c.answer_to.ensures
+    sends_along _ _ _ _ _ (λ j. answer_to t a.first.command a.first.asdu.now (types j) (q j) (choice j)) c.answer_to.ensures

@@ -8,5 +8,5 @@ use Rattle.read_data.proofs.put_requested.Given as goal
 
 abbrev pub invariant-loop-i : goal.invariant-loop-i
 invariant-loop-i l =
-    Log l.initial.out l.from (wire (requested_by l.m l.first l.h l.command l.asdu)) l.out l.o
-    (wire (requested_at l.m l.first l.h l.command.ca l.asdu (header_octets + address_octets * l.i) (l.command.count - l.i)))
+    Log l.initial.out l.from (wire (requested_by l.m l.first l.h l.asked.command l.asked.asdu.now)) l.out l.o
+    (wire (requested_at l.m l.first l.h l.asked.command.ca l.asked.asdu.now (header_octets + address_octets * l.i) (l.asked.command.count - l.i)))

@@ -8,5 +8,5 @@ use Rattle.read_data.proofs.read_octets.Given as goal
 
 abbrev pub invariant-loop-i : goal.invariant-loop-i
 invariant-loop-i l =
-    (asked_at l.m l.first l.h l.asdu header_octets l.fn.command.count ≡ together (Some l.octets) (asked_at l.m l.first l.h l.asdu (header_octets + address_octets * l.i) (l.fn.command.count - l.i)))
+    (asked_at l.m l.first l.h l.asked.asdu.now header_octets l.fn.asked.command.count ≡ together (Some l.octets) (asked_at l.m l.first l.h l.asked.asdu.now (header_octets + address_octets * l.i) (l.fn.asked.command.count - l.i)))
     × (l.octets ≤ 21 * l.i)

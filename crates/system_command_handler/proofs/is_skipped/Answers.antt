@@ -13,26 +13,26 @@ use Rattle.system_command_handler.proofs.is_skipped.Goals.{Start}
 
 -- a cause that is taken or not
 abbrev skipped : Start → Bool → Bool
-skipped s taken = not taken || (eqb s.args.command.kind interrogation_type & eqb (qualifier_of s.args.asdu.now) 0)
+skipped s taken = not taken || (eqb s.args.asked.command.kind interrogation_type & eqb (qualifier_of s.args.asked.asdu.now) 0)
 
-pub returns-then-command-ne-C_IC_NA_1 : goal.returns-then-command-ne-C_IC_NA_1
+pub returns-then-asked-ne-C_IC_NA_1 : goal.returns-then-asked-ne-C_IC_NA_1
 unfolding ◌&◌
-returns-then-command-ne-C_IC_NA_1 c =
-    let e : cause_taken c.args.command.kind c.args.command.cause ≡ true = sym c.is_system_command_cot.ensures ∙ c.if-not-is_system_command_cot.false in
-    sym (ap (skipped (goal.at.returns-then-command-ne-C_IC_NA_1 c).Start) e ∙ simp (ne_eqb _ _ c.if-command-ne-C_IC_NA_1.true))
+returns-then-asked-ne-C_IC_NA_1 c =
+    let e : cause_taken c.args.asked.command.kind c.args.asked.command.cause ≡ true = sym c.is_system_command_cot.ensures ∙ c.if-not-is_system_command_cot.false in
+    sym (ap (skipped (goal.at.returns-then-asked-ne-C_IC_NA_1 c).Start) e ∙ simp (ne_eqb _ _ c.if-asked-ne-C_IC_NA_1.true))
 
-pub returns-then-asdu : goal.returns-then-asdu
+pub returns-then-asked : goal.returns-then-asked
 unfolding ◌&◌
-returns-then-asdu c =
-    let m = c.args.asdu.now in
-    let e : cause_taken c.args.command.kind c.args.command.cause ≡ true = sym c.is_system_command_cot.ensures ∙ c.if-not-is_system_command_cot.false in
+returns-then-asked c =
+    let m = c.args.asked.asdu.now in
+    let e : cause_taken c.args.asked.command.kind c.args.asked.command.cause ≡ true = sym c.is_system_command_cot.ensures ∙ c.if-not-is_system_command_cot.false in
     let h : length m ≤ 9 = omega arith in
     let q : get_or m 9 0 ≡ 0 = get_or-eq_default m 0 {n = 9} h in
-    sym (ap (skipped (goal.at.returns-then-asdu c).Start) e ∙ simp (eq-eqb _ _ c.if-command-ne-C_IC_NA_1.false, q))
+    sym (ap (skipped (goal.at.returns-then-asked c).Start) e ∙ simp (eq-eqb _ _ c.if-asked-ne-C_IC_NA_1.false, q))
 
 pub returns : goal.returns
 unfolding ◌&◌
 returns c =
-    let e : cause_taken c.args.command.kind c.args.command.cause ≡ true = sym c.is_system_command_cot.ensures ∙ c.if-not-is_system_command_cot.false in
+    let e : cause_taken c.args.asked.command.kind c.args.asked.command.cause ≡ true = sym c.is_system_command_cot.ensures ∙ c.if-not-is_system_command_cot.false in
     let q = c.qualifier_of.ensures in
-    sym (ap (skipped (goal.at.returns c).Start) e ∙ simp (eq-eqb _ _ c.if-command-ne-C_IC_NA_1.false) (ap (λ (x : ℕ). eqb x 0) (sym q)))
+    sym (ap (skipped (goal.at.returns c).Start) e ∙ simp (eq-eqb _ _ c.if-asked-ne-C_IC_NA_1.false) (ap (λ (x : ℕ). eqb x 0) (sym q)))

@@ -7,12 +7,14 @@ use Rattle.std.proofs.lemmas.Result.{err_from_is_err_and}
 use Prim.Native.Nat.{ℕ}
 use Rattle.table.specs.Memory.{well_formed, table_of}
 use Rattle.table.specs.Settings.{limit_of}
+use Rattle.asdu.proofs.Reading.{parsed_is}
 use Rattle.asdu.specs.Command.{read_as, refusal_of}
 use Rattle.asdu.specs.declared.command.Entry.TheVariants.{SystemCommands}
 use Rattle.answers.specs.Said.{lent}
 use Rattle.answers.specs.System.{system_said}
 use Rattle.answers.proofs.Ends.{ends_no_table, ends_refused}
 use Rattle.system_command_handler.proofs.Ways.{unread_says}
+use native.Mathlib.Omega.{arith}
 use Rattle.system_command_handler.proofs.system_command.Goals as goal
 use Rattle.system_command_handler.proofs.system_command.Goals.{After-parse, Else-not-well_formed}
 
@@ -38,3 +40,12 @@ returns-in_err-command c =
     rw (r.1, r.2)
     (ends_refused (system_said c.args.clock.now c.args.asdu.now) (lent c.args.table.now c.args.clock.now c.args.answer.now []) (there p.Else-not-well_formed) (Err (refusal_of _))
     (unread_says c.args.clock.now c.args.asdu.now (table_of c.args.table.now) _ e) refl)
+
+pub invariant_of-asked : goal.invariant_of-asked
+invariant_of-asked c =
+    let e = sym (is_read (goal.at.invariant_of-asked c).After-parse) ∙ c.in_ok-command.was in
+    record { octets = λ i. omega (arith, c.type_inv.asdu i); whole = (parsed_is (limit_of (table_of c.args.table.now)) SystemCommands c.args.asdu.now c.in_ok-command.command e).whole }
+
+pub handle_ingress_asdu-requires : goal.handle_ingress_asdu-requires
+handle_ingress_asdu-requires c =
+    (there (goal.at.handle_ingress_asdu-requires c).Else-not-well_formed, sym (is_read (goal.at.handle_ingress_asdu-requires c).After-parse) ∙ c.in_ok-command.was)

@@ -1,7 +1,7 @@
 -- Each return computes `read_as` by the tests that led there; a length that passed leaves six octets to read.
 use mathlib.Core.Path.{sym, ap, ◌∙◌}
 use lib.ListN.{length}
-use Rattle.std.specs.Prelude.{Ok, Err}
+use Rattle.std.specs.Prelude.{Ok}
 use Rattle.asdu.specs.Command.{read_as}
 use Rattle.asdu.proofs.Reading.{header_there}
 use native.Mathlib.Omega.{arith}

@@ -2,7 +2,6 @@
 use mathlib.Core.Path.{◌≡◌}
 use Prim.Native.Nat.{◌+◌, ◌-◌}
 use lib.ListN.{length-take, length-drop}
-use Rattle.octets.specs.Number.{Octets}
 use Rattle.asdu.proofs.Lengths.{confirmation_octets}
 use native.Mathlib.Omega.{arith}
 use Rattle.asdu.proofs.confirmation.put_confirmation.Goals as goal
@@ -10,13 +9,11 @@ use Rattle.asdu.proofs.confirmation.put_confirmation.Goals as goal
 pub put_reply-requires : goal.put_reply-requires
 put_reply-requires c =
     let a = c.args in
-    let n : 6 + (3 + a.command.element) - 6 ≡ 3 + a.command.element = omega arith in
+    let n : 6 + (3 + a.first.command.element) - 6 ≡ 3 + a.first.command.element = omega arith in
     (c.requires.0, rw n (simp (length-take, length-drop) (omega arith)))
 
 pub returns : goal.returns
 returns c =
-    let known = c.shared_slice_known-1 in
     let a = c.args in
-    let n : 6 + (3 + a.command.element) - 6 ≡ 3 + a.command.element = omega arith in
-    let o : Octets a.asdu.now = λ i. omega (arith, known.given i) in
-    rw (confirmation_octets a.command a.asdu.now a.cause a.negative o (omega arith)) (rw n at c.put_reply.ensures)
+    let n : 6 + (3 + a.first.command.element) - 6 ≡ 3 + a.first.command.element = omega arith in
+    rw (confirmation_octets a.first.command a.first.asdu.now a.cause a.negative a.first.octets a.first.inside) (rw n at c.put_reply.ensures)
