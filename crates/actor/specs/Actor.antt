@@ -1,5 +1,5 @@
 -- ---- as the code reads: nobody need believe what follows, the laws in proofs/ tie it to the effects of `registry`
-use Rattle.std.specs.Prelude.{ℕ, ◌+◌, ◌*◌, ◌-◌, ◌≤◌, ◌<◌, List, true, length}
+use Rattle.std.specs.Prelude.{ℕ, ◌+◌, ◌*◌, ◌-◌, ◌≤◌, ◌<◌, List, length}
 use Rattle.limits.specs.Share.{admission_of}
 use Rattle.limits.specs.declared.share.Share.{Share}
 use Rattle.limits.specs.Outcome.{Outcome}

@@ -16,6 +16,7 @@ use model::Request;
 use registry::StationShare;
 
 // The share of the station of index i.
+#[tactic(auto, unfolding(crate::specs::Actor::station_share_at))]
 fn share_here(m: &[u8], i: usize) -> StationShare
     requires { HasStation m.now i }
     ensures { result ≡ station_share_at m.now i }
@@ -33,6 +34,7 @@ fn share_here(m: &[u8], i: usize) -> StationShare
 }
 
 // The share rule's answer to one more point of the station of index i.
+#[tactic(auto, unfolding(crate::specs::Actor::room_at, crate::specs::Actor::station_share_at))]
 fn room_at(m: &[u8], i: usize) -> Result<(), Refusal>
     requires { HasStation m.now i }
     ensures { result ≡ room_at m.now i }
@@ -42,6 +44,7 @@ fn room_at(m: &[u8], i: usize) -> Result<(), Refusal>
 }
 
 // Registers a point of a planned station, whose seat was found in a well-formed table.
+#[tactic(auto, using(lookup::proofs::Laws::seats_readable, lookup::proofs::Laws::places_readable, lookup::proofs::Laws::seat_inside, crate::proofs::Register::register_own, crate::proofs::Register::register_known, crate::proofs::Register::register_room, crate::proofs::Register::register_bounds, crate::proofs::Register::register_done))]
 fn register_here(table: &mut [u8], q: Request, seat: Seat) -> Result<(), Refusal>
     requires { (well_formed table.old ≡ true) × (seat_at table.old q.ca ≡ Some seat) }
     ensures { Replies (registering q) table.old (placeless result) table.new }
@@ -57,6 +60,7 @@ fn register_here(table: &mut [u8], q: Request, seat: Seat) -> Result<(), Refusal
 }
 
 // Registers one point: 3, then 11 to 15 and 17 in order, then 19 and 20; with 0 the point is in its place.
+#[tactic(auto, using(lookup::proofs::Laws::seats_readable))]
 pub fn register_point(table: &mut [u8], q: Request) -> Result<(), Refusal>
     ensures { Replies (registering q) table.old (placeless result) table.new }
 {
@@ -70,6 +74,7 @@ pub fn register_point(table: &mut [u8], q: Request) -> Result<(), Refusal>
 }
 
 // Removes one point: 3, then 18; with 0 its room is free at once.
+#[tactic(auto, using(lookup::proofs::Laws::seats_readable, lookup::proofs::Laws::places_readable, crate::proofs::Unregister::out_bounds))]
 pub fn unregister_point(table: &mut [u8], ca: u16, ioa: u32) -> Result<(), Refusal>
     ensures { Replies (unregistering ca ioa) table.old (placeless result) table.new }
 {
@@ -97,6 +102,7 @@ pub fn unregister_all(table: &mut [u8]) -> Result<usize, Refusal>
 }
 
 // A station's reservation, ceiling and held, and what is free and unmet in the table: 3, then 12.
+#[tactic(auto, using(lookup::proofs::Laws::seats_readable, lookup::proofs::Laws::seat_inside, crate::proofs::Unregister::share_no_table, crate::proofs::Unregister::share_absent, crate::proofs::Unregister::share_found))]
 pub fn station_share(table: &[u8], ca: u16) -> Result<StationShare, Refusal>
     ensures { result ≡ share_on ca table.now }
 {

@@ -1,5 +1,5 @@
 -- The turns of a batch in memory are the turns of `room_tests`: what the stations hold, what is free and what is unmet go along. Assumes nothing.
-use Rattle.std.specs.Prelude.{Option, Some, None}
+use Rattle.std.specs.Prelude.{Option, Some, None, Result, Ok, Err}
 use mathlib.Core.Path.{◌≡◌, refl, sym, ap, ◌∙◌}
 use mathlib.Core.List.{List, [], ◌∷◌, map}
 use mathlib.Core.Bool.{Bool, true, false}
@@ -7,11 +7,11 @@ use mathlib.Core.Option.{none, some}
 use Prim.Native.Nat.{ℕ, zero, suc, ◌+◌, ◌*◌, ◌-◌, ◌≤◌, ◌<◌}
 use native.Mathlib.Omega.{arith}
 use lib.ListN.{length, get_or, set, replicate, length-set, length-replicate}
-use lib.Dec.{eqb}
 use borrow.Author.Tests.{lt-ltb}
 use Rattle.limits.specs.Test.{pick, total}
 use Rattle.limits.specs.Outcome.{Outcome, done, is_done}
 use Rattle.limits.specs.Share.{held_of, unmet_of, taken_in, admission_of}
+use Rattle.limits.specs.declared.outcome.Refusal.{Refusal}
 use Rattle.limits.specs.declared.share.Share.{Share}
 use Rattle.limits.proofs.Outcomes.{done_is, not_both}
 use Rattle.limits.proofs.Shares.{unmet_is, admitted_only}
@@ -29,125 +29,108 @@ use Rattle.table.proofs.Shares.{total_held, total_unmet}
 use Rattle.table.proofs.Change.{station_found, stations_split, insert_length}
 use Rattle.table.proofs.Cut.{total_at}
 use Rattle.lookup.specs.declared.Seat.{Seat}
-use Rattle.lookup.specs.Seats.{here, seat_in, seat_at}
-use Rattle.lookup.proofs.Laws.{same_numbers}
+use Rattle.lookup.specs.Seats.{seat_at}
 use Rattle.registry.specs.Effect.{Reply}
 use Rattle.registry.specs.Effect.{Effect, refused}
 use Rattle.registry.specs.Registry.{room_fault, with_request, room_tests}
 use Rattle.registry.specs.History.{Holding, holding_of}
 use Rattle.batch_records.proofs.Laws.{requests_on, requests_end}
 use Rattle.batch_room.specs.declared.Standing.{Standing}
-use Rattle.batch_room.specs.Room.{room_reply, share_with, standing_of, station_at, standing_at, taken_at, room_run, taken_run, holding_with, TookIn}
+use Rattle.batch_room.specs.Room.{room_reply, share_with, one_more, admitting, standing_of, station_at, standing_at, taken_at, going_on, room_run, taken_run, holding_with, TookIn}
 use Rattle.batch_room.proofs.Lines.{lines_at, lines_start, Asked, asked, not_asked}
 
 -- ---- one turn in memory
 
--- the index of a seat is below the number of stations
-pub seat_index : (m : List ℕ) (ca i pb sb n j first h : ℕ) → seat_in m ca i pb sb n ≡ here j first h → j < i + n
-unfolding seat_in
-seat_index m ca i pb sb zero j first h e = let z : ◌≡◌ {A = ℕ} 0 1 = cc in absurd (omega arith)
-seat_index m ca i pb sb (suc n) j first h e =
-    by_test (eqb (two m sb) ca) e (λ f. seat_index m ca (i + 1) (pb + 48 * two m (sb + 6)) (sb + 8) n j first h f)
-  where
-    by_test : (t : Bool) → pick t (here i pb (two m (sb + 6))) (seat_in m ca (i + 1) (pb + 48 * two m (sb + 6)) (sb + 8) n) ≡ here j first h
-        → (seat_in m ca (i + 1) (pb + 48 * two m (sb + 6)) (sb + 8) n ≡ here j first h → j < i + 1 + n) → j < i + suc n
-    by_test true f again = let d = (same_numbers f).0 in omega arith
-    by_test false f again = let r = again f in omega arith
-
-pub seat_inside : (m : List ℕ) (ca : ℕ) (s : Seat) → seat_at m ca ≡ Some s → s.index < two m 6
-unfolding seat_at
-seat_inside m ca s e = let r = seat_index m ca 0 64 (64 + 48 * two m 4) (two m 6) s.index s.first s.held e in omega arith
-
--- who is admitted is below the ceiling
-pub done_below : (s : Share) (free unmet : ℕ) → is_done (standing_of s free unmet).outcome ≡ true → s.held < s.ceiling
+-- who is admitted is below the ceiling, and what stands after is the rule's
+pub admitted_is : (s : Share) (now after : Standing) → standing_of s now ≡ Ok after → (s.held < s.ceiling) × (after ≡ one_more s now)
 unfolding standing_of
-done_below s free unmet d = (admitted_only s free unmet (done_is _ d)).below_ceiling
+admitted_is s now after e = by_case (admission_of s now.free now.unmet) refl e
+  where
+    by_case : (o : Outcome) → admission_of s now.free now.unmet ≡ o → admitting o (one_more s now) ≡ Ok after → (s.held < s.ceiling) × (after ≡ one_more s now)
+    by_case (Ok u) f g = ((admitted_only s now.free now.unmet f).below_ceiling, cc)
+    by_case (Err r) f g = let z : ◌≡◌ {A = ℕ} 0 1 = cc in absurd (omega arith)
+
+-- what the rule answers, without what stands after
+outcome_of : Result Standing Refusal → Outcome
+outcome_of (Ok after) = done
+outcome_of (Err r) = Err r
+
+rule_answers : (o : Outcome) (after : Standing) → outcome_of (admitting o after) ≡ o
+unfolding outcome_of
+rule_answers (Ok u) after = refl
+rule_answers (Err r) after = refl
 
 -- ---- the turns of the loop
 
-module _ (m taken r : List ℕ) (free unmet i n : ℕ) where
-  pub run_start : room_run m taken free unmet 0 (requests_at r 0 n) ≡ room_run m taken free unmet 0 (requests_at r (24 * 0) (n - 0))
-  run_start = let e : n ≡ n - 0 = omega arith in ap (λ (x : ℕ). room_run m taken free unmet 0 (requests_at r 0 x)) e
+module _ (m taken r : List ℕ) (now : Standing) (i n : ℕ) where
+  pub run_start : room_run m taken now 0 (requests_at r 0 n) ≡ room_run m taken now 0 (requests_at r (24 * 0) (n - 0))
+  run_start = let e : n ≡ n - 0 = omega arith in ap (λ (x : ℕ). room_run m taken now 0 (requests_at r 0 x)) e
 
-  module _ (h : i < n) (s : Standing) (e : s ≡ standing_at m taken (seat_at m (two r (24 * i))) free unmet) where
-    pub run_on_lem : (later : List ℕ) → later ≡ taken_at m taken (seat_at m (two r (24 * i))) free unmet → is_done s.outcome ≡ true
-        → room_run m taken free unmet i (requests_at r (24 * i) (n - i)) ≡ room_run m later s.free s.unmet (i + 1) (requests_at r (24 * (i + 1)) (n - (i + 1)))
-    unfolding room_run
-    run_on_lem later f d =
-        let z : is_done (standing_at m taken (seat_at m (two r (24 * i))) free unmet).outcome ≡ true = ap (λ (y : Standing). is_done y.outcome) (sym e) ∙ d in
-        ap (room_run m taken free unmet i) (requests_on r i n h)
-        ∙ (simp z)
-        ∙ (λ k. room_run m (sym f k) (sym e k).free (sym e k).unmet (i + 1) (requests_at r (24 * (i + 1)) (n - (i + 1))))
+  pub taken_start : taken_run m taken now (requests_at r 0 n) ≡ taken_run m taken now (requests_at r (24 * 0) (n - 0))
+  taken_start = let e : n ≡ n - 0 = omega arith in ap (λ (x : ℕ). taken_run m taken now (requests_at r 0 x)) e
 
-    pub run_stop : is_done s.outcome ≡ false
-        → room_run m taken free unmet i (requests_at r (24 * i) (n - i)) ≡ record { outcome = s.outcome; place = i }
+  module _ (h : i < n) where
+    pub run_on_lem : (after : Standing) → standing_at m taken (seat_at m (two r (24 * i))) now ≡ Ok after
+        → room_run m taken now i (requests_at r (24 * i) (n - i))
+        ≡ room_run m (taken_at m taken (seat_at m (two r (24 * i))) now) after (i + 1) (requests_at r (24 * (i + 1)) (n - (i + 1)))
     unfolding room_run
-    run_stop d =
-        let z : is_done (standing_at m taken (seat_at m (two r (24 * i))) free unmet).outcome ≡ false = ap (λ (y : Standing). is_done y.outcome) (sym e) ∙ d in
-        ap (room_run m taken free unmet i) (requests_on r i n h)
-        ∙ (simp z)
-        ∙ (λ k. record { outcome = (sym e k).outcome; place = i })
+    run_on_lem after e = ap (room_run m taken now i) (requests_on r i n h) ∙ simp e
+
+    pub run_stop : (f : Refusal) → standing_at m taken (seat_at m (two r (24 * i))) now ≡ Err f
+        → room_run m taken now i (requests_at r (24 * i) (n - i)) ≡ record { outcome = Err f; place = i }
+    unfolding room_run
+    run_stop f e = ap (room_run m taken now i) (requests_on r i n h) ∙ simp e
 
     -- the same of what was taken in
-    pub taken_on : (later : List ℕ) → later ≡ taken_at m taken (seat_at m (two r (24 * i))) free unmet → is_done s.outcome ≡ true
-        → taken_run m taken free unmet (requests_at r (24 * i) (n - i)) ≡ taken_run m later s.free s.unmet (requests_at r (24 * (i + 1)) (n - (i + 1)))
+    pub taken_on : (after : Standing) → standing_at m taken (seat_at m (two r (24 * i))) now ≡ Ok after
+        → taken_run m taken now (requests_at r (24 * i) (n - i))
+        ≡ taken_run m (taken_at m taken (seat_at m (two r (24 * i))) now) after (requests_at r (24 * (i + 1)) (n - (i + 1)))
     unfolding taken_run
-    taken_on later f d =
-        let z : is_done (standing_at m taken (seat_at m (two r (24 * i))) free unmet).outcome ≡ true = ap (λ (y : Standing). is_done y.outcome) (sym e) ∙ d in
-        ap (taken_run m taken free unmet) (requests_on r i n h)
-        ∙ (simp z)
-        ∙ (λ k. taken_run m (sym f k) (sym e k).free (sym e k).unmet (requests_at r (24 * (i + 1)) (n - (i + 1))))
+    taken_on after e = ap (taken_run m taken now) (requests_on r i n h) ∙ simp e
 
-    pub taken_stop : is_done s.outcome ≡ false
-        → taken_run m taken free unmet (requests_at r (24 * i) (n - i)) ≡ taken_at m taken (seat_at m (two r (24 * i))) free unmet
+    pub taken_stop : (f : Refusal) → standing_at m taken (seat_at m (two r (24 * i))) now ≡ Err f
+        → taken_run m taken now (requests_at r (24 * i) (n - i)) ≡ taken_at m taken (seat_at m (two r (24 * i))) now
     unfolding taken_run
-    taken_stop d =
-        let z : is_done (standing_at m taken (seat_at m (two r (24 * i))) free unmet).outcome ≡ false = ap (λ (y : Standing). is_done y.outcome) (sym e) ∙ d in
-        ap (taken_run m taken free unmet) (requests_on r i n h) ∙ (simp z)
+    taken_stop f e = ap (taken_run m taken now) (requests_on r i n h) ∙ simp e
 
-  pub taken_start : taken_run m taken free unmet (requests_at r 0 n) ≡ taken_run m taken free unmet (requests_at r (24 * 0) (n - 0))
-  taken_start = let e : n ≡ n - 0 = omega arith in ap (λ (x : ℕ). taken_run m taken free unmet (requests_at r 0 x)) e
-
-  pub taken_end : n ≤ i → taken_run m taken free unmet (requests_at r (24 * i) (n - i)) ≡ taken
-  unfolding taken_run
-  taken_end h = ap (taken_run m taken free unmet) (requests_end r i n h)
-
-  pub run_end : n ≤ i → room_run m taken free unmet i (requests_at r (24 * i) (n - i)) ≡ record { outcome = done; place = 0 }
+  pub run_end : n ≤ i → room_run m taken now i (requests_at r (24 * i) (n - i)) ≡ record { outcome = done; place = 0 }
   unfolding room_run
-  run_end h = ap (room_run m taken free unmet i) (requests_end r i n h)
+  run_end h = ap (room_run m taken now i) (requests_end r i n h)
+
+  pub taken_end : n ≤ i → taken_run m taken now (requests_at r (24 * i) (n - i)) ≡ taken
+  unfolding taken_run
+  taken_end h = ap (taken_run m taken now) (requests_end r i n h)
 
 -- ---- what goes along
 
 -- At a turn: the stations hold what the lines say, and free and unmet are the table's.
-pub record Along (m taken : List ℕ) (free unmet' : ℕ) (t : Table) : Type 0 where
+pub record Along (m taken : List ℕ) (now : Standing) (t : Table) : Type 0 where
   pub lines : map holding_of t.stations ≡ lines_at m taken 0 (64 + 48 * two m 4) (two m 6)
-  pub is_free : free ≡ t.capacity - total held t.stations
-  pub is_unmet : unmet' ≡ total unmet t.stations
+  pub is_free : now.free ≡ t.capacity - total held t.stations
+  pub is_unmet : now.unmet ≡ total unmet t.stations
   pub room : two m 6 ≤ length taken
 
-asked_at_lem : (m taken : List ℕ) (free unmet' : ℕ) (t : Table) (ca j first h : ℕ) → Along m taken free unmet' t → seat_at m ca ≡ here j first h
-    → Asked m taken (64 + 48 * two m 4) ca j 0 (64 + 48 * two m 4) (two m 6) t.stations
+asked_at_lem : (m taken : List ℕ) (now : Standing) (t : Table) (ca : ℕ) (s : Seat) → Along m taken now t → seat_at m ca ≡ Some s
+    → Asked m taken (64 + 48 * two m 4) ca s.index 0 (64 + 48 * two m 4) (two m 6) t.stations
 unfolding seat_at
-asked_at_lem m taken free unmet' t ca j first h a e =
-    asked m taken (64 + 48 * two m 4) ca j first h 0 64 (64 + 48 * two m 4) (two m 6) t.stations (omega arith) e a.lines
+asked_at_lem m taken now t ca s a e =
+    asked m taken (64 + 48 * two m 4) ca s.index s.first s.held 0 64 (64 + 48 * two m 4) (two m 6) t.stations (omega arith) e a.lines
 
-unplanned_at : (m taken : List ℕ) (free unmet' : ℕ) (t : Table) (ca : ℕ) → Along m taken free unmet' t → seat_at m ca ≡ None
+unplanned_at : (m taken : List ℕ) (now : Standing) (t : Table) (ca : ℕ) → Along m taken now t → seat_at m ca ≡ None
     → station_of ca t.stations ≡ none
 unfolding seat_at
-unplanned_at m taken free unmet' t ca a e = not_asked m taken ca 0 64 (64 + 48 * two m 4) (two m 6) t.stations e a.lines
+unplanned_at m taken now t ca a e = not_asked m taken ca 0 64 (64 + 48 * two m 4) (two m 6) t.stations e a.lines
 
 -- The answer in memory is the table's.
-same_fault : (m taken : List ℕ) (free unmet' : ℕ) (t : Table) (ca : ℕ) (s : Option Seat) → Along m taken free unmet' t → seat_at m ca ≡ s
-    → (standing_at m taken s free unmet').outcome ≡ room_fault t (station_of ca t.stations)
-unfolding standing_at standing_of room_fault
-same_fault m taken free unmet' t ca (Some s) a e =
-    let q = asked_at_lem m taken free unmet' t ca s.index s.first s.held a e in
-    let f : free ≡ t.capacity - total held t.stations = a.is_free in
-    let u : unmet' ≡ total unmet t.stations = a.is_unmet in
-    let f' : free ≡ t.capacity - total held_of (map share_of t.stations) = f ∙ ap (λ (x : ℕ). t.capacity - x) (sym (total_held t.stations)) in
-    let u' : unmet' ≡ total unmet_of (map share_of t.stations) = u ∙ sym (total_unmet t.stations) in
-    (λ k. admission_of (sym q.share k) (f' k) (u' k)) ∙ sym (ap (room_fault t) q.is_station)
-same_fault m taken free unmet' t ca None a e = sym (ap (room_fault t) (unplanned_at m taken free unmet' t ca a e))
+same_fault : (m taken : List ℕ) (now : Standing) (t : Table) (ca : ℕ) (s : Option Seat) → Along m taken now t → seat_at m ca ≡ s
+    → outcome_of (standing_at m taken s now) ≡ room_fault t (station_of ca t.stations)
+unfolding standing_at standing_of room_fault outcome_of
+same_fault m taken now t ca (Some s) a e =
+    let q = asked_at_lem m taken now t ca s a e in
+    let f : now.free ≡ t.capacity - total held_of (map share_of t.stations) = a.is_free ∙ ap (λ (x : ℕ). t.capacity - x) (sym (total_held t.stations)) in
+    let u : now.unmet ≡ total unmet_of (map share_of t.stations) = a.is_unmet ∙ sym (total_unmet t.stations) in
+    rule_answers _ _ ∙ (λ k. admission_of (sym q.share k) (f k) (u k)) ∙ sym (ap (room_fault t) q.is_station)
+same_fault m taken now t ca None a e = sym (ap (room_fault t) (unplanned_at m taken now t ca a e))
 
 -- the sums with one point more at a station
 sums_more : (t : Table) (ca : ℕ) (f : List Point → List Point) (s : Station) → station_of ca t.stations ≡ some s → length (f s.points) ≡ length s.points + 1
@@ -174,13 +157,12 @@ unmet_lost s h =
     (λ k. a k - d k)
 
 -- After the turn all of it goes along with the table that has the point.
-along_on : (m taken : List ℕ) (free unmet' : ℕ) (t : Table) (q : Request) (j first h : ℕ) → Along m taken free unmet' t → seat_at m q.ca ≡ here j first h
-    → is_done (standing_of (share_with m (station_at m j) (get_or taken j 0)) free unmet').outcome ≡ true
-    → Along m (set taken j (get_or taken j 0 + 1)) (standing_of (share_with m (station_at m j) (get_or taken j 0)) free unmet').free
-    (standing_of (share_with m (station_at m j) (get_or taken j 0)) free unmet').unmet (with_request t q)
-unfolding standing_of added changed
-along_on m taken free unmet' t q j first h a e d =
-    let k = asked_at_lem m taken free unmet' t q.ca j first h a e in
+along_on : (m taken : List ℕ) (now after : Standing) (t : Table) (q : Request) (s : Option Seat) → Along m taken now t → seat_at m q.ca ≡ s
+    → standing_at m taken s now ≡ Ok after → Along m (taken_at m taken s now) after (with_request t q)
+unfolding standing_at taken_at added changed
+along_on m taken now after t q (Some seat) a e d =
+    let j : ℕ = seat.index in
+    let k = asked_at_lem m taken now t q.ca seat a e in
     let s : Station = k.s in
     let f : List Point → List Point = insert_in (point_of q) in
     let l : length (f s.points) ≡ length s.points + 1 = insert_length (point_of q) s.points in
@@ -188,20 +170,23 @@ along_on m taken free unmet' t q j first h a e d =
     let more : total held (in_station q.ca (with_points f) t.stations) ≡ total held t.stations + 1 = z.0 in
     let less : total unmet (in_station q.ca (with_points f) t.stations) + (s.reservation - length s.points) ≡ total unmet t.stations + (s.reservation - (length s.points + 1)) = z.1 in
     let S : Share = share_with m (station_at m j) (get_or taken j 0) in
-    let below : S.held < S.ceiling = done_below S free unmet' d in
+    let admitted = admitted_is S now after d in
+    let free : after.free ≡ now.free - 1 = ap (λ (x : Standing). x.free) admitted.1 in
+    let unmet' : after.unmet ≡ now.unmet - (unmet_of S - unmet_of (taken_in S)) = ap (λ (x : Standing). x.unmet) admitted.1 in
     let lost : unmet_of S - unmet_of (taken_in S) ≡ (s.reservation - length s.points) - (s.reservation - (length s.points + 1)) =
-    unmet_lost S below ∙ ap (λ (x : Share). (x.reservation - x.held) - (x.reservation - (x.held + 1))) (sym k.share) in
-    let is_free : free ≡ t.capacity - total held t.stations = a.is_free in
-    let is_unmet : unmet' ≡ total unmet t.stations = a.is_unmet in
+    unmet_lost S admitted.0 ∙ ap (λ (x : Share). (x.reservation - x.held) - (x.reservation - (x.held + 1))) (sym k.share) in
+    let is_free : now.free ≡ t.capacity - total held t.stations = a.is_free in
+    let is_unmet : now.unmet ≡ total unmet t.stations = a.is_unmet in
     let room : two m 6 ≤ length taken = a.room in
     let inside : j < 0 + two m 6 = k.inside.1 in
     let len : length (set taken j (get_or taken j 0 + 1)) ≡ length taken = length-set taken j (get_or taken j 0 + 1) in
-    record {
+    rw d (record {
       lines = k.one_more f l (omega arith);
       is_free = omega arith;
       is_unmet = omega arith;
       room = omega arith;
-    }
+    })
+along_on m taken now after t q None a e d = let z : ◌≡◌ {A = ℕ} 0 1 = cc in absurd (omega arith)
 
 -- ---- the whole
 
@@ -209,14 +194,12 @@ reply_of : Effect → Reply
 reply_of e = record { outcome = e.outcome; place = e.place }
 
 -- one turn: refused alike, or on with the rest
-one_turn : (o o' : Outcome) (i : ℕ) (t : Table) (x : Reply) (y : Effect) → o ≡ o' → (is_done o ≡ true → x ≡ reply_of y)
-    → pick (is_done o) x (record { outcome = o; place = i }) ≡ reply_of (pick (is_done o') y (refused o' i t))
-unfolding reply_of
-one_turn o o' i t x y e again = by_test (is_done o) refl ∙ ap (λ (z : Outcome). reply_of (pick (is_done z) y (refused z i t))) e
-  where
-    by_test : (b : Bool) → is_done o ≡ b → pick b x (record { outcome = o; place = i }) ≡ reply_of (pick b y (refused o i t))
-    by_test true d = again d
-    by_test false d = refl
+one_turn : (x : Result Standing Refusal) (o : Outcome) (i : ℕ) (t : Table) (rest : Standing → Reply) (y : Effect) → outcome_of x ≡ o
+    → ((after : Standing) → x ≡ Ok after → rest after ≡ reply_of y)
+    → going_on x rest (λ r. record { outcome = Err r; place = i }) ≡ reply_of (pick (is_done o) y (refused o i t))
+unfolding reply_of outcome_of
+one_turn (Ok after) o i t rest y e again = again after refl ∙ ap (λ (z : Outcome). reply_of (pick (is_done z) y (refused z i t))) e
+one_turn (Err r) o i t rest y e again = ap (λ (z : Outcome). reply_of (pick (is_done z) y (refused z i t))) e
 
 none_left : (i : ℕ) (t : Table) → record { outcome = done; place = 0 } ≡ reply_of (room_tests t i [])
 unfolding room_tests reply_of
@@ -228,29 +211,14 @@ none_more : (m taken : List ℕ) (t : Table) (i : ℕ) → map holding_of t.stat
 unfolding room_tests
 none_more m taken t i e = e
 
--- the turn of a request by its seat
-turn_law : (m taken : List ℕ) (free unmet' i : ℕ) (t : Table) (q : Request) (qs : List Request) (s : Option Seat) → Along m taken free unmet' t → seat_at m q.ca ≡ s
-    → ((taken : List ℕ) (free unmet' : ℕ) → Along m taken free unmet' (with_request t q)
-    → room_run m taken free unmet' (i + 1) qs ≡ reply_of (room_tests (with_request t q) (i + 1) qs))
-    → pick (is_done (standing_at m taken s free unmet').outcome)
-    (room_run m (taken_at m taken s free unmet') (standing_at m taken s free unmet').free (standing_at m taken s free unmet').unmet (i + 1) qs)
-    (record { outcome = (standing_at m taken s free unmet').outcome; place = i })
-    ≡ reply_of (room_tests t i (q ∷ qs))
-unfolding room_tests standing_at taken_at room_fault reply_of
-turn_law m taken free unmet' i t q qs (Some s) a e again =
-    one_turn _ _ i t _ _ (same_fault m taken free unmet' t q.ca (Some s) a e)
-    (λ d. (simp d) ∙ again _ _ _ (along_on m taken free unmet' t q s.index s.first s.held a e d))
-turn_law m taken free unmet' i t q qs None a e again =
-    ap (λ (o : _). reply_of (pick (is_done (room_fault t o)) (room_tests (with_request t q) (i + 1) qs) (refused (room_fault t o) i t)))
-    (sym (unplanned_at m taken free unmet' t q.ca a e))
-
 -- The turns in memory give the answer of the table.
-run_law : (m : List ℕ) (qs : List Request) (taken : List ℕ) (free unmet' i : ℕ) (t : Table) → Along m taken free unmet' t
-    → room_run m taken free unmet' i qs ≡ reply_of (room_tests t i qs)
-unfolding room_run
-run_law m [] taken free unmet' i t a = none_left i t
-run_law m (q ∷ qs) taken free unmet' i t a =
-    turn_law m taken free unmet' i t q qs (seat_at m q.ca) a refl (λ taken free unmet' b. run_law m qs taken free unmet' (i + 1) (with_request t q) b)
+run_law : (m : List ℕ) (qs : List Request) (taken : List ℕ) (now : Standing) (i : ℕ) (t : Table) → Along m taken now t
+    → room_run m taken now i qs ≡ reply_of (room_tests t i qs)
+unfolding room_run room_tests
+run_law m [] taken now i t a = none_left i t
+run_law m (q ∷ qs) taken now i t a =
+    one_turn _ _ i t _ _ (same_fault m taken now t q.ca (seat_at m q.ca) a refl)
+    (λ after d. run_law m qs _ after (i + 1) (with_request t q) (along_on m taken now after t q (seat_at m q.ca) a refl d))
 
 -- ---- what each station took in
 
@@ -267,52 +235,37 @@ room_first t i q qs e = by_test (is_done (room_fault t (station_of q.ca t.statio
     by_test true d f = (done_is _ d, refl)
     by_test false d f = not_both (sym d ∙ ap is_done f)
 
--- the turn of a request by its seat
-turn_taken : (m taken : List ℕ) (free unmet' : ℕ) (t : Table) (q : Request) (qs : List Request) (goal : List Holding) (s : Option Seat) → Along m taken free unmet' t
-    → seat_at m q.ca ≡ s → room_fault t (station_of q.ca t.stations) ≡ done
-    → ((taken : List ℕ) (free unmet' : ℕ) → Along m taken free unmet' (with_request t q)
-    → goal ≡ lines_at m (taken_run m taken free unmet' qs) 0 (64 + 48 * two m 4) (two m 6))
-    → goal ≡ lines_at m (pick (is_done (standing_at m taken s free unmet').outcome)
-    (taken_run m (taken_at m taken s free unmet') (standing_at m taken s free unmet').free (standing_at m taken s free unmet').unmet qs)
-    (taken_at m taken s free unmet')) 0 (64 + 48 * two m 4) (two m 6)
-unfolding standing_at taken_at
-turn_taken m taken free unmet' t q qs goal (Some s) a e r again =
-    let d : is_done (standing_of (share_with m (station_at m s.index) (get_or taken s.index 0)) free unmet').outcome ≡ true =
-    ap is_done (same_fault m taken free unmet' t q.ca (Some s) a e ∙ r) in
-    again _ _ _ (along_on m taken free unmet' t q s.index s.first s.held a e d) ∙ sym (simp d)
-turn_taken m taken free unmet' t q qs goal None a e r again =
-    not_both (ap is_done (same_fault m taken free unmet' t q.ca None a e ∙ r))
+-- a turn that has room goes on with the rest
+turn_taken : (m : List ℕ) (x : Result Standing Refusal) (goal : List Holding) (rest : Standing → List ℕ) (end : Refusal → List ℕ) → outcome_of x ≡ done
+    → ((after : Standing) → x ≡ Ok after → goal ≡ lines_at m (rest after) 0 (64 + 48 * two m 4) (two m 6))
+    → goal ≡ lines_at m (going_on x rest end) 0 (64 + 48 * two m 4) (two m 6)
+unfolding outcome_of
+turn_taken m (Ok after) goal rest end e again = again after refl
+turn_taken m (Err r) goal rest end e again = not_both (ap is_done e)
 
 -- What was taken in after the turns is what the stations of the table hold more.
-run_taken : (m : List ℕ) (qs : List Request) (taken : List ℕ) (free unmet' i : ℕ) (t : Table) → Along m taken free unmet' t → (room_tests t i qs).outcome ≡ done
-    → map holding_of (room_tests t i qs).after.stations ≡ lines_at m (taken_run m taken free unmet' qs) 0 (64 + 48 * two m 4) (two m 6)
+run_taken : (m : List ℕ) (qs : List Request) (taken : List ℕ) (now : Standing) (i : ℕ) (t : Table) → Along m taken now t → (room_tests t i qs).outcome ≡ done
+    → map holding_of (room_tests t i qs).after.stations ≡ lines_at m (taken_run m taken now qs) 0 (64 + 48 * two m 4) (two m 6)
 unfolding taken_run
-run_taken m [] taken free unmet' i t a d = none_more m taken t i a.lines
-run_taken m (q ∷ qs) taken free unmet' i t a d =
+run_taken m [] taken now i t a d = none_more m taken t i a.lines
+run_taken m (q ∷ qs) taken now i t a d =
     let f = room_first t i q qs d in
-    turn_taken m taken free unmet' t q qs (map holding_of (room_tests t i (q ∷ qs)).after.stations) (seat_at m q.ca) a refl f.0
-    (λ taken free unmet' b. ap (λ (x : Effect). map holding_of x.after.stations) f.1
-    ∙ run_taken m qs taken free unmet' (i + 1) (with_request t q) b (ap (λ (x : Effect). x.outcome) (sym f.1) ∙ d))
+    turn_taken m _ (map holding_of (room_tests t i (q ∷ qs)).after.stations) _ _ (same_fault m taken now t q.ca (seat_at m q.ca) a refl ∙ f.0)
+    (λ after x. ap (λ (x : Effect). map holding_of x.after.stations) f.1
+    ∙ run_taken m qs _ after (i + 1) (with_request t q) (along_on m taken now after t q (seat_at m q.ca) a refl x) (ap (λ (x : Effect). x.outcome) (sym f.1) ∙ d))
 
 -- Before the first turn all of it goes along with the table that the memory holds.
-room_along : (m taken : List ℕ) (free unmet' : ℕ) → ((j : ℕ) → get_or taken j 0 ≡ 0) → two m 6 ≤ length taken
-    → free ≡ two m 4 - sum_at held_at m (64 + 48 * two m 4) (two m 6) → unmet' ≡ sum_at unmet_at m (64 + 48 * two m 4) (two m 6)
-    → Along m taken free unmet' (table_of m)
+room_along : (m taken : List ℕ) (now : Standing) → ((j : ℕ) → get_or taken j 0 ≡ 0) → two m 6 ≤ length taken
+    → now.free ≡ two m 4 - sum_at held_at m (64 + 48 * two m 4) (two m 6) → now.unmet ≡ sum_at unmet_at m (64 + 48 * two m 4) (two m 6)
+    → Along m taken now (table_of m)
 unfolding table_of
-room_along m taken free unmet' z l f u =
+room_along m taken now z l f u =
     record {
       lines = lines_start m taken 0 64 (64 + 48 * two m 4) (two m 6) z;
       is_free = f ∙ ap (λ (x : ℕ). two m 4 - x) (sym (sum_held m 64 (64 + 48 * two m 4) (two m 6)));
       is_unmet = u ∙ sym (sum_unmet m 64 (64 + 48 * two m 4) (two m 6));
       room = l;
     }
-
--- The share rule over a batch, from the sums of a table's memory on.
-pub room_law : (m taken : List ℕ) (free unmet' : ℕ) (qs : List Request) → ((j : ℕ) → get_or taken j 0 ≡ 0) → two m 6 ≤ length taken
-    → free ≡ two m 4 - sum_at held_at m (64 + 48 * two m 4) (two m 6) → unmet' ≡ sum_at unmet_at m (64 + 48 * two m 4) (two m 6)
-    → room_run m taken free unmet' 0 qs ≡ room_reply (table_of m) qs
-unfolding room_reply reply_of
-room_law m taken free unmet' qs z l f u = run_law m qs taken free unmet' 0 (table_of m) (room_along m taken free unmet' z l f u)
 
 -- the lines in memory are those of the stations read
 lines_are : (m taken : List ℕ) (i pb sb n : ℕ) → lines_at m taken i sb n ≡ holding_with (stations_at m pb sb n) taken i
@@ -329,21 +282,22 @@ none_taken_lem zero j = refl
 none_taken_lem (suc n) zero = refl
 none_taken_lem (suc n) (suc j) = none_taken_lem n j
 
--- What each station took in, where none had taken in anything before.
-pub took_in : (m : List ℕ) (free unmet' : ℕ) (qs : List Request) (taken : List ℕ) → two m 6 ≤ 64
-    → free ≡ two m 4 - sum_at held_at m (64 + 48 * two m 4) (two m 6) → unmet' ≡ sum_at unmet_at m (64 + 48 * two m 4) (two m 6)
-    → taken ≡ taken_run m (replicate 64 0) free unmet' qs → TookIn (table_of m) qs taken
-unfolding table_of
-took_in m free unmet' qs taken l f u e d =
-    let n : length (replicate {A = ℕ} 64 0) ≡ 64 = length-replicate {A = ℕ} 64 0 in
-    run_taken m qs (replicate 64 0) free unmet' 0 (table_of m) (room_along m (replicate 64 0) free unmet' (none_taken_lem 64) (omega arith) f u) d
-    ∙ ap (λ (x : List ℕ). lines_at m x 0 (64 + 48 * two m 4) (two m 6)) (sym e)
-    ∙ lines_are m taken 0 64 (64 + 48 * two m 4) (two m 6)
+module _ (m taken : List ℕ) (now : Standing) (qs : List Request) (l : two m 6 ≤ 64) (z : taken ≡ replicate 64 0)
+    (f : now.free ≡ two m 4 - sum_at held_at m (64 + 48 * two m 4) (two m 6)) (u : now.unmet ≡ sum_at unmet_at m (64 + 48 * two m 4) (two m 6)) where
+  fresh : Along m taken now (table_of m)
+  fresh =
+      let n : length taken ≡ 64 = ap (λ (x : List ℕ). length x) z ∙ length-replicate {A = ℕ} 64 0 in
+      room_along m taken now (λ j. ap (λ (x : List ℕ). get_or x j 0) z ∙ none_taken_lem 64 j) (omega arith) f u
 
--- The share rule over a batch, where no station has taken in anything yet.
-pub room_fresh : (m : List ℕ) (free unmet' : ℕ) (qs : List Request) → two m 6 ≤ 64
-    → free ≡ two m 4 - sum_at held_at m (64 + 48 * two m 4) (two m 6) → unmet' ≡ sum_at unmet_at m (64 + 48 * two m 4) (two m 6)
-    → room_run m (replicate 64 0) free unmet' 0 qs ≡ room_reply (table_of m) qs
-room_fresh m free unmet' qs l f u =
-    let e : length (replicate {A = ℕ} 64 0) ≡ 64 = length-replicate {A = ℕ} 64 0 in
-    room_law m (replicate 64 0) free unmet' qs (none_taken_lem 64) (omega arith) f u
+  -- The share rule over a batch, where no station has taken in anything yet.
+  pub room_fresh : room_run m taken now 0 qs ≡ room_reply (table_of m) qs
+  unfolding room_reply reply_of
+  room_fresh = run_law m qs taken now 0 (table_of m) fresh
+
+  -- What each station took in then.
+  pub took_in : (taken' : List ℕ) → taken' ≡ taken_run m taken now qs → TookIn (table_of m) qs taken'
+  unfolding table_of
+  took_in taken' e d =
+      run_taken m qs taken now 0 (table_of m) fresh d
+      ∙ ap (λ (x : List ℕ). lines_at m x 0 (64 + 48 * two m 4) (two m 6)) (sym e)
+      ∙ lines_are m taken' 0 64 (64 + 48 * two m 4) (two m 6)

@@ -1,10 +1,10 @@
 -- The share rule over a batch: the answer, and below the line the turns as the code takes them.
 -- Document 01, 'Points, stations and shares': then the share rule as if registered one by one.
-use Rattle.std.specs.Prelude.{ℕ, ◌+◌, ◌*◌, ◌-◌, ◌≡◌, List, [], ◌∷◌, map, get_or, set, Option, Some, None}
+use Rattle.std.specs.Prelude.{ℕ, ◌+◌, ◌*◌, ◌-◌, ◌≡◌, List, [], ◌∷◌, map, get_or, set, Option, Some, None, Result, Ok, Err, is_ok}
 use Rattle.limits.specs.Test.{pick}
 use Rattle.limits.specs.Share.{unmet_of, taken_in, admission_of}
-use Rattle.std.specs.Prelude.{Err}
-use Rattle.limits.specs.Outcome.{done, is_done}
+use Rattle.limits.specs.Outcome.{Outcome, done}
+use Rattle.limits.specs.declared.outcome.Refusal.{Refusal}
 use Rattle.limits.specs.declared.outcome.Refusal.TheVariants.{StationNotPlanned}
 use Rattle.limits.specs.declared.share.Share.{Share}
 use Rattle.layout.specs.Layout.{station_size, stations_from}
@@ -38,50 +38,60 @@ TookIn t qs taken = (room_tests t 0 qs).outcome ≡ done → map holding_of (roo
 unfoldable pub share_with : List ℕ → ℕ → ℕ → Share
 share_with m at taken = record { held = (share_at m at).held + taken; reservation = (share_at m at).reservation; ceiling = (share_at m at).ceiling }
 
--- the rule's answer, and what is free and unmet with one point more
-unfoldable pub standing_of : Share → ℕ → ℕ → Standing
-standing_of s free unmet =
-    record { outcome = admission_of s free unmet; free = free - 1; unmet = unmet - (unmet_of s - unmet_of (taken_in s)) }
+-- with one point more of the share: what is free, and what is kept for all stations
+abbrev pub one_more : Share → Standing → Standing
+one_more s now = record { free = now.free - 1; unmet = now.unmet - (unmet_of s - unmet_of (taken_in s)) }
+
+-- what stands where the rule admits, or its refusal
+abbrev pub admitting : Outcome → Standing → Result Standing Refusal
+admitting (Ok u) after = Ok after
+admitting (Err r) after = Err r
+
+-- the rule's answer: what is free and kept with one point more, or a refusal
+unfoldable pub standing_of : Share → Standing → Result Standing Refusal
+standing_of s now = admitting (admission_of s now.free now.unmet) (one_more s now)
 
 -- where the octets of the station of index i lie
 abbrev pub station_at : List ℕ → ℕ → ℕ
 station_at m i = stations_from m + station_size * i
 
 -- the turn of a request whose station has a seat
-unfoldable pub standing_at : List ℕ → List ℕ → Option Seat → ℕ → ℕ → Standing
-standing_at m taken (Some seat) free unmet = standing_of (share_with m (station_at m seat.index) (get_or taken seat.index 0)) free unmet
-standing_at m taken None free unmet = record { outcome = Err StationNotPlanned; free = free; unmet = unmet }
+unfoldable pub standing_at : List ℕ → List ℕ → Option Seat → Standing → Result Standing Refusal
+standing_at m taken (Some seat) now = standing_of (share_with m (station_at m seat.index) (get_or taken seat.index 0)) now
+standing_at m taken None now = Err StationNotPlanned
 
 -- what the stations have taken in after the turn
-unfoldable pub taken_at : List ℕ → List ℕ → Option Seat → ℕ → ℕ → List ℕ
-taken_at m taken (Some seat) free unmet =
-    pick (is_done (standing_of (share_with m (station_at m seat.index) (get_or taken seat.index 0)) free unmet).outcome)
+unfoldable pub taken_at : List ℕ → List ℕ → Option Seat → Standing → List ℕ
+taken_at m taken (Some seat) now =
+    pick (is_ok (standing_of (share_with m (station_at m seat.index) (get_or taken seat.index 0)) now))
     (set taken seat.index (get_or taken seat.index 0 + 1)) taken
-taken_at m taken None free unmet = taken
+taken_at m taken None now = taken
 
 -- what the turn of a request of station `ca` gives back, and what the stations have then taken in
-abbrev pub Turned : List ℕ → List ℕ → ℕ → ℕ → ℕ → Standing → List ℕ → Type 0
-Turned m taken ca free unmet standing taken' =
-    (standing ≡ standing_at m taken (seat_at m ca) free unmet) × (taken' ≡ taken_at m taken (seat_at m ca) free unmet)
+abbrev pub Turned : List ℕ → List ℕ → ℕ → Standing → Result Standing Refusal → List ℕ → Type 0
+Turned m taken ca now result taken' = (result ≡ standing_at m taken (seat_at m ca) now) × (taken' ≡ taken_at m taken (seat_at m ca) now)
+
+-- on with the rest where a turn was admitted, else the end
+abbrev pub going_on : {A : Type 0} → Result Standing Refusal → (Standing → A) → (Refusal → A) → A
+going_on (Ok after) rest end = rest after
+going_on (Err r) rest end = end r
 
 -- the turns of the requests, the first of which has place i
-unfoldable pub room_run : List ℕ → List ℕ → ℕ → ℕ → ℕ → List Request → Reply
-room_run m taken free unmet i [] = record { outcome = done; place = 0 }
-room_run m taken free unmet i (q ∷ qs) =
-    pick (is_done (standing_at m taken (seat_at m q.ca) free unmet).outcome)
-    (room_run m (taken_at m taken (seat_at m q.ca) free unmet) (standing_at m taken (seat_at m q.ca) free unmet).free
-    (standing_at m taken (seat_at m q.ca) free unmet).unmet (i + 1) qs)
-    (record { outcome = (standing_at m taken (seat_at m q.ca) free unmet).outcome; place = i })
+unfoldable pub room_run : List ℕ → List ℕ → Standing → ℕ → List Request → Reply
+room_run m taken now i [] = record { outcome = done; place = 0 }
+room_run m taken now i (q ∷ qs) =
+    going_on (standing_at m taken (seat_at m q.ca) now)
+    (λ after. room_run m (taken_at m taken (seat_at m q.ca) now) after (i + 1) qs)
+    (λ r. record { outcome = Err r; place = i })
 
 -- what the stations have taken in after those turns
-unfoldable pub taken_run : List ℕ → List ℕ → ℕ → ℕ → List Request → List ℕ
-taken_run m taken free unmet [] = taken
-taken_run m taken free unmet (q ∷ qs) =
-    pick (is_done (standing_at m taken (seat_at m q.ca) free unmet).outcome)
-    (taken_run m (taken_at m taken (seat_at m q.ca) free unmet) (standing_at m taken (seat_at m q.ca) free unmet).free
-    (standing_at m taken (seat_at m q.ca) free unmet).unmet qs)
-    (taken_at m taken (seat_at m q.ca) free unmet)
+unfoldable pub taken_run : List ℕ → List ℕ → Standing → List Request → List ℕ
+taken_run m taken now [] = taken
+taken_run m taken now (q ∷ qs) =
+    going_on (standing_at m taken (seat_at m q.ca) now)
+    (λ after. taken_run m (taken_at m taken (seat_at m q.ca) now) after qs)
+    (λ r. taken_at m taken (seat_at m q.ca) now)
 
 -- what all turns give back, and what the stations have then taken in
-abbrev pub AllTurned : List ℕ → List ℕ → ℕ → ℕ → List Request → Reply → List ℕ → Type 0
-AllTurned m taken free unmet qs reply taken' = (reply ≡ room_run m taken free unmet 0 qs) × (taken' ≡ taken_run m taken free unmet qs)
+abbrev pub AllTurned : List ℕ → List ℕ → Standing → List Request → Reply → List ℕ → Type 0
+AllTurned m taken first qs reply taken' = (reply ≡ room_run m taken first 0 qs) × (taken' ≡ taken_run m taken first qs)

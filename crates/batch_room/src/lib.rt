@@ -1,7 +1,7 @@
 // The share rule over a batch, as if its points were registered one by one: numbers 19 and 20. The table is only read.
 #![tactic(auto)]
 
-ghost use Rattle.std.specs.Prelude.{◌≡◌, ◌+◌, ◌-◌, ◌≤◌, ◌<◌, length, replicate};
+ghost use Rattle.std.specs.Prelude.{◌≡◌, ◌+◌, ◌≤◌, ◌<◌, length, replicate};
 ghost use Rattle.layout.specs.Layout.{station_size, most_stations, stations_in, size_in};
 ghost use Rattle.batch_records.specs.Records.{requests_in};
 ghost use Rattle.replies.specs.Replies.{placed};
@@ -14,107 +14,78 @@ use limits::outcome::Refusal;
 use limits::share::Share;
 use registry::Fault;
 
-// What a request is answered for room, and what is free and unmet after it.
+// What is free, and what is kept for all stations.
 #[derive(Clone, Copy)]
 pub struct Standing {
-    pub outcome: Result<(), Refusal>,
     pub free: usize,
     pub unmet: usize,
 }
 
-// A number without another, never below zero.
-fn without(a: usize, b: usize) -> usize
-    ensures { result ≡ a - b }
+// The share rule asked once: what is free and kept with one point more, or a refusal.
+#[tactic(auto, unfolding(crate::specs::Room::standing_of))]
+fn ask(share: Share, now: Standing) -> Result<Standing, Refusal>
+    ensures { result ≡ standing_of share now }
 {
-    if a < b {
-        return 0;
-    }
-    a - b
-}
-
-// The share rule asked once, and what is free and unmet with one point more.
-fn ask(share: Share, free: usize, unmet: usize) -> Standing
-    ensures { result ≡ standing_of share free unmet }
-{
-    let answer = share.admission(free, unmet);
+    share.admission(now.free, now.unmet)?;
     let more = share.take_in();
-    let met = without(share.unmet(), more.unmet());
-    Standing {
-        outcome: answer,
-        free: without(free, 1),
-        unmet: without(unmet, met),
-    }
+    let met = share.unmet().saturating_sub(more.unmet());
+    Ok(Standing {
+        free: now.free.saturating_sub(1),
+        unmet: now.unmet.saturating_sub(met),
+    })
 }
 
 // The share of the station whose octets lie from `at`, with `taken` points more than the table has.
+#[tactic(auto, unfolding(crate::specs::Room::share_with))]
 fn share_with(m: &[u8], at: usize, taken: u16) -> Share
     requires { at + station_size ≤ length m.now }
     ensures { (result ≡ share_with m.now at taken) × (result.ceiling < 65536) }
 {
     let share = wellformed::share_at(m, at);
     Share {
-        held: share.held + (taken as usize),
+        held: share.held + usize::from(taken),
         reservation: share.reservation,
         ceiling: share.ceiling,
     }
 }
 
 // The turn of a request of station `ca`; `taken` has what each station of the plan took in at the turns before.
-#[tactic(auto, using(crate::proofs::Laws::seat_inside, crate::proofs::Laws::done_below), unfolding(crate::specs::Room::share_with, crate::specs::Room::standing_at, crate::specs::Room::taken_at))]
+#[tactic(auto, using(lookup::proofs::Laws::seat_inside, crate::proofs::Laws::admitted_is), unfolding(crate::specs::Room::share_with, crate::specs::Room::standing_at, crate::specs::Room::taken_at))]
 fn turn(
     m: &[u8],
     taken: &mut [u16; MOST_STATIONS],
     ca: usize,
-    free: usize,
-    unmet: usize,
-) -> Standing
+    now: Standing,
+) -> Result<Standing, Refusal>
     requires { (stations_in m.now ≤ most_stations) × (size_in m.now ≤ length m.now) }
-    ensures { Turned m.now taken.old ca free unmet result taken.new }
+    ensures { Turned m.now taken.old ca now result taken.new }
 {
-    let Some(seat) = lookup::seat_at(m, ca) else {
-        return Standing {
-            outcome: Err(Refusal::StationNotPlanned),
-            free: free,
-            unmet: unmet,
-        };
-    };
-    let index = seat.index;
-    let station = layout::station_at(m, index);
-    let earlier = taken[index];
-    let share = share_with(m, station, earlier);
-    let standing = ask(share, free, unmet);
-    if standing.outcome.is_err() {
-        return standing;
-    }
-    taken[index] = earlier + 1;
-    standing
+    let seat = lookup::seat_at(m, ca).ok_or(Refusal::StationNotPlanned)?;
+    let station = layout::station_at(m, seat.index);
+    let share = share_with(m, station, taken[seat.index]);
+    let after = ask(share, now)?;
+    taken[seat.index] += 1;
+    Ok(after)
 }
 
-// The turns of all records, from what is free and unmet before the first.
+// The turns of all records, from what is free and kept before the first.
+#[tactic(auto, using(crate::proofs::Laws::run_start, crate::proofs::Laws::taken_start, crate::proofs::Laws::run_on_lem, crate::proofs::Laws::taken_on, crate::proofs::Laws::run_stop, crate::proofs::Laws::taken_stop, crate::proofs::Laws::run_end, crate::proofs::Laws::taken_end))]
 fn turns(
     m: &[u8],
     records: &[u8],
     taken: &mut [u16; MOST_STATIONS],
-    free: usize,
-    unmet: usize,
+    first: Standing,
 ) -> Result<(), Fault>
     requires { (stations_in m.now ≤ most_stations) × (size_in m.now ≤ length m.now) }
-    ensures { AllTurned m.now taken.old free unmet (requests_in records.now) (placed result) taken.new }
+    ensures { AllTurned m.now taken.old first (requests_in records.now) (placed result) taken.new }
 {
-    let n = records.len() / RECORD_OCTETS;
-    let mut free_now = free;
-    let mut unmet_now = unmet;
-    for i in 0..n {
+    let mut now = first;
+    for i in 0..records.len() / RECORD_OCTETS {
         let ca = octets::number_at::<2>(records, RECORD_OCTETS * i);
-        let standing = turn(m, taken, ca, free_now, unmet_now);
-        if let Err(refusal) = standing.outcome {
-            return Err(Fault {
-                refusal: refusal,
-                place: i,
-            });
-        }
-        free_now = standing.free;
-        unmet_now = standing.unmet;
+        now = turn(m, taken, ca, now).map_err(|refusal| Fault {
+            refusal: refusal,
+            place: i,
+        })?;
     }
     Ok(())
 }
@@ -127,5 +98,9 @@ pub fn room_tests(m: &[u8], records: &[u8], taken: &mut [u16; MOST_STATIONS]) ->
     let k = layout::capacity_of(m);
     let n = layout::stations_of(m);
     let sums = wellformed::add_up(m, HEAD_SIZE + PLACE_SIZE * k, n);
-    turns(m, records, taken, without(k, sums.held), sums.unmet)
+    let first = Standing {
+        free: k.saturating_sub(sums.held),
+        unmet: sums.unmet,
+    };
+    turns(m, records, taken, first)
 }

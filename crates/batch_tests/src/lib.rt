@@ -2,7 +2,6 @@
 #![tactic(auto)]
 
 ghost use Rattle.std.specs.Prelude.{◌≡◌, true, false, [], ◌+◌, ◌*◌, ◌/◌, ◌≤◌, ◌<◌, length, is_ok};
-ghost use Rattle.limits.specs.Test.{pick};
 ghost use Rattle.merging.specs.Merge.{Differ};
 ghost use Rattle.layout.specs.Layout.{place_size};
 ghost use Rattle.model.specs.Request.{request_at};
@@ -29,6 +28,7 @@ fn is_held(m: &[u8], first: usize, n: usize, ioa: usize) -> bool
 }
 
 // The flag of an address. Any number would be right; with this one stations that have the same IOAs do not share flags.
+#[tactic(auto, unfolding(crate::specs::Tests::address_flag))]
 fn flag_of(ca: usize, ioa: usize) -> usize
     requires { (ca < 65536) × (ioa < 4294967296) }
     ensures { (result ≡ address_flag ca ioa) × (result < flag_count) }
@@ -37,6 +37,7 @@ fn flag_of(ca: usize, ioa: usize) -> usize
 }
 
 // The flag of the record at `at`.
+#[tactic(auto, unfolding(crate::specs::Tests::flag_at))]
 fn flag_at(records: &[u8], at: usize) -> usize
     requires { at + record_octets ≤ length records.now }
     ensures { (result ≡ flag_at records.now at) × (result < flag_count) }
@@ -46,36 +47,23 @@ fn flag_at(records: &[u8], at: usize) -> usize
     flag_of(ca, ioa)
 }
 
-// The flag to go by: none is needed where no two records of the batch have one address.
-fn flag_asked(apart: bool, flag: u8) -> u8
-    ensures { result ≡ pick apart 0 flag }
-{
-    if apart {
-        return 0;
-    }
-    flag
-}
-
 // Does the address stand in one of the first n records? Only where its flag is set are they looked at.
-fn stands_flagged(records: &[u8], ca: usize, ioa: usize, n: usize, flag: u8) -> bool
-    requires { (record_octets * n ≤ length records.now) × (flag ≡ 0 → stands_before records.now ca ioa n ≡ false) }
+fn stands_flagged(records: &[u8], ca: usize, ioa: usize, n: usize, flag: bool) -> bool
+    requires { (record_octets * n ≤ length records.now) × (flag ≡ false → stands_before records.now ca ioa n ≡ false) }
     ensures { result ≡ stands_before records.now ca ioa n }
 {
-    if flag == 0 {
-        return false;
-    }
-    batch_records::stands_before(records, ca, ioa, n)
+    flag && batch_records::stands_before(records, ca, ioa, n)
 }
 
 // The first of the tests 11 to 17 that the record of place i fails: the earlier records of the batch count for 16, the table for 12 and 17.
-fn fault_at(m: &[u8], records: &[u8], i: usize, flag: u8) -> Result<(), Refusal>
-    requires { (well_formed m.now ≡ true) × (record_octets * i + record_octets ≤ length records.now) × (flag ≡ 0 → comes_again records.now i ≡ false) }
+#[tactic(auto, using(lookup::proofs::Laws::seats_readable, lookup::proofs::Laws::places_readable))]
+fn fault_at(m: &[u8], records: &[u8], i: usize, flag: bool) -> Result<(), Refusal>
+    requires { (well_formed m.now ≡ true) × (record_octets * i + record_octets ≤ length records.now) × (flag ≡ false → comes_again records.now i ≡ false) }
     ensures { result ≡ batch_fault (table_of m.now) (earlier_at records.now i) (request_at records.now (record_octets * i)) }
 {
-    let at = RECORD_OCTETS * i;
-    let request = model::request_at(records, at);
-    let ca = octets::number_at::<2>(records, at);
-    let ioa = octets::number_at::<4>(records, at + IOA_IN_RECORD);
+    let request = model::request_at(records, RECORD_OCTETS * i);
+    let ca = usize::from(request.ca);
+    let ioa = request.ioa as usize;
     let Some(seat) = lookup::seat_at(m, ca) else {
         return model::own_fault(false, request);
     };
@@ -90,20 +78,19 @@ fn fault_at(m: &[u8], records: &[u8], i: usize, flag: u8) -> Result<(), Refusal>
 }
 
 // The tests of one record after another; the flags of those that passed are set.
-fn tests_of(m: &[u8], records: &[u8], flags: &mut [u8; FLAGS], apart: bool) -> Result<(), Fault>
-    requires { (well_formed m.now ≡ true) × (length flags.old ≡ flag_count) × (apart ≡ true → Differ records.now (records_in records.now)) }
+#[tactic(auto, using(crate::proofs::Flags::first_marked, crate::proofs::Flags::marked_on, crate::proofs::Flags::flag_says, crate::proofs::Flags::none_again, crate::proofs::Laws::own_start, crate::proofs::Laws::own_on, crate::proofs::Laws::own_stop, crate::proofs::Laws::own_end))]
+fn tests_of(m: &[u8], records: &[u8], flags: &mut [bool; FLAGS], apart: bool) -> Result<(), Fault>
+    requires { (well_formed m.now ≡ true) × (apart ≡ true → Differ records.now (records_in records.now)) }
     ensures { placed result ≡ own_tests (table_of m.now) [] 0 (requests_in records.now) }
 {
     let n = records.len() / RECORD_OCTETS;
     for i in 0..n {
         let k = flag_at(records, RECORD_OCTETS * i);
-        if let Err(refusal) = fault_at(m, records, i, flag_asked(apart, flags[k])) {
-            return Err(Fault {
-                refusal: refusal,
-                place: i,
-            });
-        }
-        flags[k] = 1;
+        fault_at(m, records, i, !apart && flags[k]).map_err(|refusal| Fault {
+            refusal: refusal,
+            place: i,
+        })?;
+        flags[k] = true;
     }
     Ok(())
 }
@@ -113,6 +100,6 @@ pub fn own_tests(m: &[u8], records: &[u8], apart: bool) -> Result<(), Fault>
     requires { (well_formed m.now ≡ true) × (apart ≡ true → Differ records.now (records_in records.now)) }
     ensures { placed result ≡ own_tests (table_of m.now) [] 0 (requests_in records.now) }
 {
-    let mut flags = [0u8; FLAGS];
+    let mut flags = [false; FLAGS];
     tests_of(m, records, &mut flags, apart)
 }

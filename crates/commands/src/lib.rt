@@ -25,7 +25,7 @@ use updates::UPDATE_OCTETS;
 fn is_command_cot(cause: u8) -> bool
     ensures { result ≡ process_cause_taken cause }
 {
-    matches!(cause, cot::REQUEST | cot::ACTIVATION | cot::DEACTIVATION)
+    cause == cot::REQUEST || cause == cot::ACTIVATION || cause == cot::DEACTIVATION
 }
 
 // Is the type a process command's?

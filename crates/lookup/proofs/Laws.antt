@@ -8,7 +8,7 @@ use native.Mathlib.Omega.{arith}
 use lib.ListN.{length, length-append}
 use lib.Dec.{eqb}
 use borrow.Author.Tests.{eqb-true, eqb-false}
-use Rattle.std.specs.Prelude.{Option, None}
+use Rattle.std.specs.Prelude.{Option, Some, None}
 use Rattle.limits.specs.Test.{pick, total}
 use Rattle.octets.specs.Number.{two, Octets}
 use Rattle.octets.proofs.At.{At, at_fst, at_rest}
@@ -17,7 +17,7 @@ use Rattle.table.specs.Memory.{points_at, stations_at, table_of, well_formed}
 use Rattle.table.specs.Change.{station_of, seek_in}
 use Rattle.table.proofs.Points.{length_points_at, points_complete}
 use Rattle.table.proofs.Stations.{length_bodies}
-use Rattle.table.proofs.Parse.{Good, Laid, holds}
+use Rattle.table.proofs.Parse.{Good, Laid, holds, passed}
 use Rattle.table.proofs.Cut.{bodies_at_lem, held_at_lem}
 use Rattle.table.proofs.Change.{Found, station_rises}
 use Rattle.table.proofs.Change.Absent.{absent_none, absent_more}
@@ -159,6 +159,35 @@ seat_law m ca i first h o w e =
 -- No seat: the plan has no such station.
 pub absent_law : (m : List ℕ) (ca : ℕ) → seat_at m ca ≡ None → station_of ca (table_of m).stations ≡ none
 absent_law m ca e = not_planned ca 0 64 (table_of m).stations (sym (seat_of_lem m ca) ∙ e)
+
+seat_index : (m : List ℕ) (ca i pb sb n j first h : ℕ) → seat_in m ca i pb sb n ≡ here j first h → j < i + n
+unfolding seat_in
+seat_index m ca i pb sb zero j first h e = let z : ◌≡◌ {A = ℕ} 0 1 = cc in absurd (omega arith)
+seat_index m ca i pb sb (suc n) j first h e =
+    by_test (eqb (two m sb) ca) e (λ f. seat_index m ca (i + 1) (pb + 48 * two m (sb + 6)) (sb + 8) n j first h f)
+  where
+    by_test : (t : Bool) → pick t (here i pb (two m (sb + 6))) (seat_in m ca (i + 1) (pb + 48 * two m (sb + 6)) (sb + 8) n) ≡ here j first h
+        → (seat_in m ca (i + 1) (pb + 48 * two m (sb + 6)) (sb + 8) n ≡ here j first h → j < i + 1 + n) → j < i + suc n
+    by_test true f again = let d = (same_numbers f).0 in omega arith
+    by_test false f again = let r = again f in omega arith
+
+-- The index of a seat is below the number of stations, whatever the memory holds.
+pub seat_inside : (m : List ℕ) (ca : ℕ) (s : Seat) → seat_at m ca ≡ Some s → s.index < two m 6
+unfolding seat_at
+seat_inside m ca s e = let r = seat_index m ca 0 64 (64 + 48 * two m 4) (two m 6) s.index s.first s.held e in omega arith
+
+-- What `seat_at` asks of a memory, and that the points fit.
+pub seats_readable : (m : List ℕ) → well_formed m ≡ true → (two m 6 ≤ 64) × (64 + 48 * two m 4 + 8 * two m 6 ≤ length m) × (two m 8 ≤ two m 4)
+seats_readable m w = let p = passed m w in (p.top.s_high, p.top.room, p.few)
+
+-- What `find` asks at a seat.
+pub places_readable : (m : List ℕ) (ca : ℕ) (s : Seat) → Octets m → well_formed m ≡ true → seat_at m ca ≡ Some s → s.first + 48 * s.held ≤ length m
+places_readable m ca s o w e =
+    let p = passed m w in
+    let few = p.few in
+    let room = p.top.room in
+    let places = (seat_law m ca s.index s.first s.held o w e).places in
+    omega arith
 
 -- Where a point of a station stands or would go: the station's index and held, and the place's offset by the points that lie before it.
 pub record Standing (ss : List Station) (ca ioa : ℕ) (s : Station) (w : Found ca ss s) (i h at : ℕ) : Type 0 where

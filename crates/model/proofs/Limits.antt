@@ -106,23 +106,29 @@ unfolding filled values_from
 filled_none = refl
 
 -- the table is whole with the two counters
-pub filled_all : set (set (filled 41) 97 4) 119 4 ≡ place_limits
+filled_all : set (set (filled 41) 97 4) 119 4 ≡ place_limits
 unfolding filled place_limits counter_limit values_from
 filled_all = refl
 
--- a size read from the list of sizes
-pub size_is : (sizes : List ℕ) (kind size : ℕ) → sizes ≡ point_sizes → size ≡ get_or sizes kind 0 → size ≡ point_octets kind
-size_is sizes kind size e f = f ∙ ap (λ (l : List ℕ). get_or l kind 0) e ∙ point_sizes_lem kind
+pub filled_end : (l : List ℕ) (n : ℕ) → l ≡ filled n → n ≤ 41 → 41 ≤ n → set (set l 97 4) 119 4 ≡ place_limits
+filled_end l n e a b = let f : n ≡ 41 = omega arith in ap (λ (x : List ℕ). set (set x 97 4) 119 4) (e ∙ ap filled f) ∙ filled_all
 
--- a turn of the loop
-pub filled_turn : (l : List ℕ) (n size : ℕ) → l ≡ filled n → n < 41 → size ≡ point_octets n
-    → set (set l n (get_or (values_from first_of 0 13) size 0)) (n + 41) (get_or (values_from last_of 0 13) size 0) ≡ filled (n + 1)
-unfolding first_limit last_limit
-filled_turn l n size e h f =
-    let b : point_octets n ≤ 12 = point_at_most n in
-    let x : get_or (values_from first_of 0 13) size 0 ≡ first_limit n = values_at first_of 13 size (omega arith) ∙ ap first_of f in
-    let y : get_or (values_from last_of 0 13) size 0 ≡ last_limit n = values_at last_of 13 size (omega arith) ∙ ap last_of f in
-    (λ j. set (set (e j) n (x j)) (n + 41) (y j)) ∙ filled_more n h
+-- a size read from the list of sizes
+module _ (sizes : List ℕ) (kind size : ℕ) (e : sizes ≡ point_sizes) (f : size ≡ get_or sizes kind 0) where
+  size_is : size ≡ point_octets kind
+  size_is = f ∙ ap (λ (l : List ℕ). get_or l kind 0) e ∙ point_sizes_lem kind
+
+  pub size_small : size < 13
+  size_small = omega (arith, size_is, point_at_most kind)
+
+  -- a turn of the loop
+  pub filled_turn : (l : List ℕ) → l ≡ filled kind → kind < 41
+      → set (set l kind (get_or (values_from first_of 0 13) size 0)) (kind + 41) (get_or (values_from last_of 0 13) size 0) ≡ filled (kind + 1)
+  unfolding first_limit last_limit
+  filled_turn l g h =
+      let x : get_or (values_from first_of 0 13) size 0 ≡ first_limit kind = values_at first_of 13 size size_small ∙ ap first_of size_is in
+      let y : get_or (values_from last_of 0 13) size 0 ≡ last_limit kind = values_at last_of 13 size size_small ∙ ap last_of size_is in
+      (λ j. set (set (g j) kind (x j)) (kind + 41) (y j)) ∙ filled_more kind h
 
 -- ---- the value
 

@@ -2,7 +2,7 @@
 use mathlib.Core.Path.{◌≡◌, refl, sym, ap, ◌∙◌}
 use mathlib.Core.List.{List}
 use mathlib.Core.Bool.{true, false, ◌||◌}
-use Prim.Native.Nat.{ℕ, suc, ◌+◌, ◌-◌, ◌≤◌, ◌<◌}
+use Prim.Native.Nat.{ℕ, suc, ◌+◌, ◌*◌, ◌-◌, ◌≤◌, ◌<◌}
 use native.Mathlib.Decide.{dec_le}
 use native.Mathlib.Omega.{arith}
 use lib.ListN.{get_or}
@@ -143,18 +143,26 @@ module _ (m : List ℕ) (o : Octets m) (at ca low : ℕ) where
 
 -- ---- the loop over n places
 
-module _ (m : List ℕ) (at n : ℕ) (h : 0 < n) (ca low : ℕ) where
-  one_more : n ≡ suc (n - 1)
+-- A turn at the place of index i.
+module _ (m : List ℕ) (at n i : ℕ) (h : i < n) (ca low : ℕ) where
+  abbrev place : ℕ
+  place = at + 48 * i
+
+  one_more : n - i ≡ suc (n - (i + 1))
   one_more = omega arith
 
-  pub places_on : place_ok m at ca low ≡ true → places_ok m at ca low n ≡ places_ok m (at + 48) ca (three m (at + 3) + 1) (n - 1)
-  unfolding places_ok ◌&◌
-  places_on e = ap (places_ok m at ca low) one_more ∙ simp e
+  next : place + 48 ≡ at + 48 * (i + 1)
+  next = omega arith
 
-  pub places_off : place_ok m at ca low ≡ false → places_ok m at ca low n ≡ false
+  pub places_on : place_ok m place ca low ≡ true
+      → places_ok m place ca low (n - i) ≡ places_ok m (at + 48 * (i + 1)) ca (three m (place + 3) + 1) (n - (i + 1))
   unfolding places_ok ◌&◌
-  places_off e = ap (places_ok m at ca low) one_more ∙ simp e
+  places_on e = ap (places_ok m place ca low) one_more ∙ simp e (ap (λ (x : ℕ). places_ok m x ca (three m (place + 3) + 1) (n - (i + 1))) next)
 
-pub places_end : (m : List ℕ) (at ca low n : ℕ) → n ≤ 0 → places_ok m at ca low n ≡ true
+  pub places_off : place_ok m place ca low ≡ false → places_ok m place ca low (n - i) ≡ false
+  unfolding places_ok ◌&◌
+  places_off e = ap (places_ok m place ca low) one_more ∙ simp e
+
+pub places_end : (m : List ℕ) (at ca low n i : ℕ) → n ≤ i → places_ok m at ca low (n - i) ≡ true
 unfolding places_ok
-places_end m at ca low n h = let e : n ≡ 0 = omega arith in ap (places_ok m at ca low) e
+places_end m at ca low n i h = let e : n - i ≡ 0 = omega arith in ap (places_ok m at ca low) e

@@ -7,7 +7,7 @@ mod registration;
 
 use layout::VALUE_SIZE;
 pub use place::{place_of, put_place};
-pub use places::{PLACE_LIMITS, place_limits, places_ok};
+pub use places::PlaceLimits;
 pub use registration::{is_counter, own_fault, point_of, request_at};
 
 // The two types of counters: integrated totals, without and with a time tag.

@@ -4,7 +4,7 @@ use mathlib.Core.Path.{◌≡◌, refl, sym, ap, ◌∙◌}
 use mathlib.Core.List.{List, [], ◌∷◌, ◌++◌, map}
 use mathlib.Core.Bool.{Bool, true, false}
 use mathlib.Core.Option.{Option, none, some}
-use Prim.Native.Nat.{ℕ, zero, suc, ◌+◌, ◌*◌, ◌-◌, ◌≤◌, ◌<◌}
+use Prim.Native.Nat.{ℕ, zero, suc, ◌+◌, ◌-◌, ◌<◌}
 use native.Mathlib.Omega.{arith}
 use lib.ListN.{length, get_or, length-append}
 use lib.Dec.{eqb}
@@ -15,7 +15,6 @@ use Rattle.limits.proofs.Outcomes.{not_both}
 use Rattle.octets.specs.Number.{three, Octets}
 use Rattle.model.specs.declared.Point.{Point}
 use Rattle.model.specs.Place.{point_at}
-use Rattle.layout.specs.Layout.{place_size}
 use Rattle.asdu.specs.Header.{Asdu, asdu_octets, wire}
 use Rattle.asdu.specs.Joined.{joined}
 use Rattle.asdu.specs.declared.command.Command.{Command}
@@ -23,8 +22,8 @@ use Rattle.answers.specs.Said.{size}
 use Rattle.table.specs.Table.{rising}
 use Rattle.table.specs.Memory.{points_at, table_of, well_formed}
 use Rattle.table.specs.Change.{station_of, point_in, known}
-use Rattle.table.proofs.Parse.{passed}
-use Rattle.lookup.specs.Seats.{here, seat_at}
+use Rattle.lookup.specs.declared.Seat.{Seat}
+use Rattle.lookup.specs.Seats.{seat_at}
 use Rattle.lookup.specs.Find.{find_at}
 use Rattle.lookup.proofs.Laws.{seat_law, absent_law}
 use Rattle.lookup.proofs.Halving.{held_law, missing_law}
@@ -143,45 +142,36 @@ pub record Requested (m : List ℕ) (first h : ℕ) (c : Command) (asdu : List �
   pub is_octets : octets ≡ size (map (requested_asdu c.ca) points)
   pub is_data : requested_by m first h c asdu ≡ map (requested_asdu c.ca) points
 
-module _ (m : List ℕ) (i first h : ℕ) (o : Octets m) (w : well_formed m ≡ true) (c : Command) (e : seat_at m c.ca ≡ here i first h) where
+module _ (m : List ℕ) (seat : Seat) (o : Octets m) (w : well_formed m ≡ true) (c : Command) (e : seat_at m c.ca ≡ Some seat) where
   -- the points at the seat are the station's, and they rise
-  seat_rises : rising 0 (points_at m first h) ≡ true
-  seat_rises = let z = seat_law m c.ca i first h o w e in ap (rising 0) z.points ∙ z.rises
+  seat_rises : rising 0 (points_at m seat.first seat.held) ≡ true
+  seat_rises = let z = seat_law m c.ca seat.index seat.first seat.held o w e in ap (rising 0) z.points ∙ z.rises
 
-  seat_points : points_at m first h ≡ points_of (station_of c.ca (table_of m).stations)
-  seat_points = let z = seat_law m c.ca i first h o w e in z.points ∙ sym (ap points_of z.seat.is_station)
-
-  -- What the code asks of the numbers.
-  pub read_bounds : first + place_size * h ≤ length m
-  read_bounds =
-      let p = passed m w in
-      let r = p.top.room in
-      let few = p.few in
-      let z = (seat_law m c.ca i first h o w e).places in
-      omega arith
+  seat_points : points_at m seat.first seat.held ≡ points_of (station_of c.ca (table_of m).stations)
+  seat_points = let z = seat_law m c.ca seat.index seat.first seat.held o w e in z.points ∙ sym (ap points_of z.seat.is_station)
 
   module _ (asdu : List ℕ) where
-    counted_is : asked_at m first h asdu header_octets c.count ≡ counted c.ca (points_read c asdu (table_of m))
+    counted_is : asked_at m seat.first seat.held asdu header_octets c.count ≡ counted c.ca (points_read c asdu (table_of m))
     counted_is =
-        asked_is m first h c.ca asdu seat_rises header_octets c.count
+        asked_is m seat.first seat.held c.ca asdu seat_rises header_octets c.count
         ∙ ap (λ (ps : List Point). counted c.ca (points_asked (addresses_in asdu header_octets c.count) ps)) seat_points
 
-    data_is : (qs : List Point) → points_read c asdu (table_of m) ≡ some qs → requested_by m first h c asdu ≡ map (requested_asdu c.ca) qs
+    data_is : (qs : List Point) → points_read c asdu (table_of m) ≡ some qs → requested_by m seat.first seat.held c asdu ≡ map (requested_asdu c.ca) qs
     data_is qs f =
-        requested_is m first h c.ca asdu seat_rises header_octets c.count qs
+        requested_is m seat.first seat.held c.ca asdu seat_rises header_octets c.count qs
         (ap (λ (ps : List Point). points_asked (addresses_in asdu header_octets c.count) ps) seat_points ∙ f)
 
     -- The octets were counted: every address is known, and these are the points.
-    pub requested_law : (octets : ℕ) → Some octets ≡ asked_at m first h asdu header_octets c.count → Requested m first h c asdu octets
+    pub requested_law : (octets : ℕ) → Some octets ≡ asked_at m seat.first seat.held asdu header_octets c.count → Requested m seat.first seat.held c asdu octets
     unfolding counted
     requested_law octets f = by_asked (points_read c asdu (table_of m)) refl (f ∙ counted_is)
       where
-        by_asked : (x : Option (List Point)) → points_read c asdu (table_of m) ≡ x → Some octets ≡ counted c.ca x → Requested m first h c asdu octets
+        by_asked : (x : Option (List Point)) → points_read c asdu (table_of m) ≡ x → Some octets ≡ counted c.ca x → Requested m seat.first seat.held c asdu octets
         by_asked none d g = let z : ◌≡◌ {A = ℕ} 0 1 = cc in absurd (omega arith)
         by_asked (some qs) d g = record { points = qs; is_asked = d; is_octets = cc; is_data = data_is qs d }
 
     -- An address is missing: no points are asked for.
-    pub missing_address_law : None ≡ asked_at m first h asdu header_octets c.count → points_read c asdu (table_of m) ≡ none
+    pub missing_address_law : None ≡ asked_at m seat.first seat.held asdu header_octets c.count → points_read c asdu (table_of m) ≡ none
     unfolding counted
     missing_address_law f = by_asked (points_read c asdu (table_of m)) refl (f ∙ counted_is)
       where

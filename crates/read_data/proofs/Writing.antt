@@ -24,18 +24,14 @@ pub found_is : (m : List ℕ) (ca at : ℕ) (x : Result ℕ ℕ) → x ≡ Ok at
 unfolding requested_of
 found_is m ca at x e = ap (λ (y : Result ℕ ℕ). wire (requested_of m ca y)) e ∙ wire_one (requested_asdu ca (point_at m at))
 
-over_nothing : (out : List ℕ) (o : ℕ) → over out o [] ≡ out
+-- none found: nothing is written
+pub nothing_found : (m : List ℕ) (ca at : ℕ) (x : Result ℕ ℕ) → x ≡ Err at → wire (requested_of m ca x) ≡ []
+unfolding requested_of
+nothing_found m ca at x e = ap (λ (y : Result ℕ ℕ). wire (requested_of m ca y)) e ∙ wire_none
+
+pub over_nothing : (out : List ℕ) (o : ℕ) → over out o [] ≡ out
 unfolding over
 over_nothing out o = rw (add-zero o) (take-append-drop o out)
-
--- none found: nothing is written
-pub nothing_found : (m out : List ℕ) (ca o at : ℕ) (x : Result ℕ ℕ) → x ≡ Err at
-    → PutsAt o (wire (requested_of m ca x)) out o out
-unfolding requested_of
-nothing_found m out ca o at x e =
-    let q : wire (requested_of m ca x) ≡ [] = ap (λ (y : Result ℕ ℕ). wire (requested_of m ca y)) e ∙ wire_none in
-    let l : length (wire (requested_of m ca x)) ≡ 0 = ap length q in
-    (omega arith, sym (ap (over out o) q ∙ over_nothing out o))
 
 module _ (m : List ℕ) (first h ca : ℕ) (asdu out₀ whole out : List ℕ) (at n i from o : ℕ)
     (log : Log out₀ from whole out o (wire (requested_at m first h ca asdu (at + 3 * i) (n - i)))) (fits : from + length whole ≤ length out₀) where

@@ -29,6 +29,7 @@ fn found_octets(m: &[u8], first: usize, h: usize, ioa: usize) -> Option<usize>
 
 // The octets of the requested ASDUs of a command's objects, repeats included, from the h places from `first`; none if an object has an address that no
 // point has.
+#[tactic(auto, using(crate::proofs::Turns::asked_small, crate::proofs::Turns::asked_on, crate::proofs::Turns::asked_missing, crate::proofs::Turns::asked_end))]
 pub fn read_octets(m: &[u8], first: usize, h: usize, command: Command, asdu: &[u8]) -> Option<usize>
     requires { (first + place_size * h ≤ length m.now) × (object_at 0 command.count ≤ length asdu.now) × (command.count ≤ count_limit) }
     ensures { result ≡ asked_at m.now first h asdu.now header_octets command.count }
@@ -42,6 +43,7 @@ pub fn read_octets(m: &[u8], first: usize, h: usize, command: Command, asdu: &[u
 }
 
 // Writes the requested ASDU of the point with an IOA into what remains of `out` after `o`, and gives the place after its last octet.
+#[tactic(auto, using(crate::proofs::Turns::held_inside, crate::proofs::Writing::found_is, crate::proofs::Writing::nothing_found, crate::proofs::Writing::over_nothing))]
 fn put_found(
     out: &mut [u8],
     o: usize,
@@ -62,6 +64,7 @@ fn put_found(
 
 // Writes the requested ASDUs of a command's objects, repeats included, one after another into what remains of `out` after `from`, and gives the place
 // after the last octet.
+#[tactic(auto, using(crate::proofs::Writing::next_fits))]
 pub fn put_requested(
     out: &mut [u8],
     from: usize,

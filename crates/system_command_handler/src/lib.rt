@@ -23,6 +23,7 @@ use limits::size::{ADDRESS_OCTETS, HEADER_OCTETS};
 // ---- read
 
 // The echo of all objects, negative where an address is missing; else one ASDU for each object, in the command's order.
+#[tactic(auto, using(lookup::proofs::Laws::seats_readable, lookup::proofs::Laws::places_readable))]
 fn handle_read(
     answer: &mut [u8],
     table: &[u8],

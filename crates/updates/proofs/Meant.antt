@@ -1,6 +1,5 @@
 -- Which point an update means: what the code finds in a well-formed memory is the point that the definition names. Assumes nothing.
 use Rattle.std.specs.Prelude.{Option, Some, None, Result, Ok, Err}
-use Rattle.std.specs.Result.{result_ok}
 use mathlib.Core.Path.{◌≡◌, refl, sym, ap, ◌∙◌, subst}
 use mathlib.Core.List.{List, [], ◌∷◌}
 use mathlib.Core.Bool.{Bool, true, false}
@@ -9,47 +8,34 @@ use Prim.Native.Nat.{ℕ, ◌+◌, ◌*◌, ◌≤◌}
 use native.Mathlib.Omega.{arith}
 use lib.ListN.{length, get_or}
 use lib.Dec.{eqb}
-use borrow.Author.Tests.{eqb-true, ne_eqb, eq-eqb}
+use borrow.Author.Tests.{eqb-true}
 use Rattle.limits.specs.Test.{pick, total}
-use Rattle.octets.specs.Number.{two, Octets}
+use Rattle.octets.specs.Number.{Octets}
 use Rattle.model.specs.declared.Point.{Point}
 use Rattle.model.specs.Place.{point_at}
 use Rattle.table.specs.Table.{Station, held, rising}
 use Rattle.table.specs.Memory.{points_at, table_of, well_formed}
 use Rattle.table.specs.Change.{station_of, seek_in, point_in, known}
-use Rattle.table.proofs.Parse.{passed}
 use Rattle.table.proofs.Change.{Found}
 use Rattle.report.specs.Order.{points_of}
 use Rattle.lookup.specs.declared.Seat.{Seat}
 use Rattle.lookup.specs.Seats.{here, seat_at}
 use Rattle.lookup.specs.Find.{find_at}
-use Rattle.lookup.proofs.Laws.{Seated, Seen, seat_law, absent_law}
+use Rattle.lookup.proofs.Laws.{Seated, Seen, seat_law, absent_law, places_readable}
 use Rattle.lookup.proofs.Halving.{HeldAt, held_law, missing_law}
 use Rattle.answers.specs.Process.{Update, updated, update_of, revalued}
 use Rattle.updates.specs.Updates.{target_on, target_in, target_at}
 
 -- ---- bounds of what is found in a well-formed memory
 
-module _ (m : List ℕ) (w : well_formed m ≡ true) where
-  pub table_bounds : (two m 6 ≤ 64) × (64 + 48 * two m 4 + 8 * two m 6 ≤ length m)
-  table_bounds = let p = passed m w in (p.top.s_high, p.top.room)
+module _ (m : List ℕ) (w : well_formed m ≡ true) (o : Octets m) (ca : ℕ) (s : Seat) (e : seat_at m ca ≡ Some s) where
+  spot_law : (ioa at : ℕ) → find_at m s.first s.held ioa ≡ Ok at → HeldAt m s.first s.held ioa at (points_at m s.first s.held)
+  spot_law ioa at f =
+      let seen : Seen m ca s.index s.first s.held = seat_law m ca s.index s.first s.held o w e in
+      held_law m s.first s.held ioa at (ap (rising 0) seen.points ∙ seen.rises) f
 
-  module _ (o : Octets m) (ca : ℕ) (s : Seat) (e : seat_at m ca ≡ Some s) where
-    pub seat_bounds : s.first + 48 * s.held ≤ length m
-    seat_bounds =
-        let p = passed m w in
-        let few : two m 8 ≤ two m 4 = p.few in
-        let room : 64 + 48 * two m 4 + 8 * two m 6 ≤ length m = p.top.room in
-        let places : s.first + 48 * s.held ≤ 64 + 48 * two m 8 = (seat_law m ca s.index s.first s.held o w e).places in
-        omega arith
-
-    spot_law : (ioa at : ℕ) → find_at m s.first s.held ioa ≡ Ok at → HeldAt m s.first s.held ioa at (points_at m s.first s.held)
-    spot_law ioa at f =
-        let seen : Seen m ca s.index s.first s.held = seat_law m ca s.index s.first s.held o w e in
-        held_law m s.first s.held ioa at (ap (rising 0) seen.points ∙ seen.rises) f
-
-    pub held_bounds : (ioa at : ℕ) → find_at m s.first s.held ioa ≡ Ok at → at + 48 ≤ length m
-    held_bounds ioa at f = let b = seat_bounds in let k = (spot_law ioa at f).inside in omega arith
+  pub held_bounds : (ioa at : ℕ) → find_at m s.first s.held ioa ≡ Ok at → at + 48 ≤ length m
+  held_bounds ioa at f = let b = places_readable m ca s o w e in let k = (spot_law ioa at f).inside in omega arith
 
 -- ---- the point that is meant
 
@@ -158,29 +144,3 @@ module _ (m : List ℕ) (u : Update) (o : Octets m) (w : well_formed m ≡ true)
       of_seat : (x : Option Seat) → seat_at m u.ca ≡ x → target_in m u x ≡ None → update_of (table_of m) u ≡ none
       of_seat (Some s) p f = of_spot s.index s.first s.held p (find_at m s.first s.held u.ioa) refl f
       of_seat None p f = no_station p
-
--- ---- the target as the code finds it
-
--- a place that `ok` passes on was found
-pub found_place : (x : Result ℕ ℕ) (a : ℕ) → Some a ≡ result_ok x → x ≡ Ok a
-found_place (Ok b) a e = cc
-found_place (Err b) a e = let z : ◌≡◌ {A = ℕ} 0 1 = cc in absurd (omega arith)
-
-module _ (m : List ℕ) (u : Update) where
-  pub target_unplanned : seat_at m u.ca ≡ None → None ≡ target_at m u
-  unfolding target_at
-  target_unplanned e = sym (ap (target_in m u) e)
-
-  module _ (s : Seat) (e : seat_at m u.ca ≡ Some s) where
-    pub target_missing : (x : Result ℕ ℕ) → x ≡ find_at m s.first s.held u.ioa → None ≡ result_ok x → None ≡ target_at m u
-    unfolding target_at
-    target_missing (Ok a) f n = let z : ◌≡◌ {A = ℕ} 0 1 = cc in absurd (omega arith)
-    target_missing (Err a) f n = sym (ap (target_in m u) e ∙ ap (target_on m u) (sym f))
-
-    pub target_other : (a : ℕ) → find_at m s.first s.held u.ioa ≡ Ok a → (get_or m a 0 ≡ u.kind → ⊥) → None ≡ target_at m u
-    unfolding target_at
-    target_other a f n = sym (ap (target_in m u) e ∙ ap (target_on m u) f ∙ simp (ne_eqb _ _ n))
-
-    pub target_here : (a : ℕ) → find_at m s.first s.held u.ioa ≡ Ok a → get_or m a 0 ≡ u.kind → Some a ≡ target_at m u
-    unfolding target_at
-    target_here a f k = sym (ap (target_in m u) e ∙ ap (target_on m u) f ∙ simp (eq-eqb _ _ k))

@@ -25,7 +25,7 @@ pub const UPDATE_OCTETS: usize = 18;
 // ---- which point an update means
 
 // The place of the point that the update at `at` means; none where its address is unknown or the point has another type.
-#[tactic(auto, using(crate::proofs::Meant::target_unplanned))]
+#[tactic(auto, using(lookup::proofs::Laws::seats_readable, lookup::proofs::Laws::places_readable, crate::proofs::Meant::held_bounds), unfolding(crate::specs::Updates::target_at))]
 fn can_apply_update(m: &[u8], updates: &[u8], at: usize) -> Option<usize>
     requires { UpdateIn m.now updates.now at }
     ensures { result ≡ target_at m.now (update_at updates.now at) }
@@ -43,6 +43,7 @@ fn can_apply_update(m: &[u8], updates: &[u8], at: usize) -> Option<usize>
 // ---- sizes
 
 // The octets that the update at `at` tells: an ASDU of one object, or none.
+#[tactic(auto, using(crate::proofs::Turns::skipped_told, crate::proofs::Turns::place_length))]
 fn told_of(m: &[u8], updates: &[u8], at: usize) -> usize
     requires { UpdateIn m.now updates.now at }
     ensures { (result ≡ length (told_one m.now updates.now at)) × (result ≤ most_told) }
@@ -56,6 +57,7 @@ fn told_of(m: &[u8], updates: &[u8], at: usize) -> usize
 }
 
 // The octets that the first n updates will tell; nothing is written.
+#[tactic(auto, using(crate::proofs::Turns::size_on, crate::proofs::Turns::size_end, crate::proofs::Turns::size_all))]
 pub fn told_octets(m: &[u8], updates: &[u8], n: usize) -> usize
     requires { (well_formed m.now ≡ true) × (update_octets * n ≤ length updates.now) }
     ensures { result ≡ length (told_by_all m.now updates.now 0 n) }
@@ -80,6 +82,7 @@ fn store(m: &mut [u8], place: usize, updates: &[u8], from: usize, kind: u8)
 }
 
 // Stores the update at `at` and tells it in `out` from `o` on, with its own CA and cause 3, and gives the place after; skipped, nothing is stored or told.
+#[tactic(auto, using(crate::proofs::Turns::skipped_told, crate::proofs::Turns::skipped_left, crate::proofs::Turns::place_inside, crate::proofs::Turns::place_told, crate::proofs::Turns::over_none))]
 fn apply_one(m: &mut [u8], updates: &[u8], at: usize, out: &mut [u8], o: usize) -> usize
     requires { UpdateIn m.old updates.now at × (o + length (told_one m.old updates.now at) ≤ length out.old) }
     ensures { Applies (left_one m.old updates.now at) (told_one m.old updates.now at) out.old o result m.new out.new }
@@ -94,6 +97,7 @@ fn apply_one(m: &mut [u8], updates: &[u8], at: usize, out: &mut [u8], o: usize) 
 }
 
 // Stores the first n updates in their order, and tells them at the front of `out`, which has room for all.
+#[tactic(auto, using(crate::proofs::Turns::going_room))]
 pub fn apply_model_updates(m: &mut [u8], updates: &[u8], n: usize, out: &mut [u8]) -> usize
     requires { (well_formed m.old ≡ true) × (update_octets * n ≤ length updates.now) × (length (told_by_all m.old updates.now 0 n) ≤ length out.old) }
     ensures { Applies (left_by_all m.old updates.now 0 n) (told_by_all m.old updates.now 0 n) out.old 0 result m.new out.new }

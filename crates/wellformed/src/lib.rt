@@ -1,9 +1,8 @@
 // The test for well-formedness of a table in lent memory. It has no condition: any octets, any length.
 #![tactic(auto)]
 
-ghost use Rattle.std.specs.Prelude.{◌≡◌, ◌+◌, ◌*◌, ◌-◌, ◌≤◌, ◌<◌, length};
-ghost use Rattle.layout.specs.Layout.{head_size, place_size, station_size, most_stations, after_places, held_at};
-ghost use Rattle.model.specs.Limits.{place_limits};
+ghost use Rattle.std.specs.Prelude.{◌≡◌, ◌+◌, ◌*◌, ◌-◌, ◌≤◌, ◌<◌, length, true};
+ghost use Rattle.layout.specs.Layout.{head_size, place_size, station_size, most_stations, capacity_in, stations_in, points_in, stations_from, held_at};
 ghost use Rattle.wellformed.specs.Station.{share_at, AddedUp, places_at};
 ghost use Rattle.table.specs.Table.{numbers_ok, shares_ok};
 ghost use Rattle.table.specs.Memory.{sum_at, numbers_at, plan_at, bodies_at, mark_at, settings_at, head_at, shares_at, well_formed};
@@ -13,7 +12,7 @@ use layout::{
     SPARE_OFFSET, SPARE_SIZE, STATION_SIZE,
 };
 use limits::share::Share;
-use model::PLACE_LIMITS;
+use model::PlaceLimits;
 
 // ---- the head
 
@@ -185,16 +184,19 @@ pub fn add_up(m: &[u8], at: usize, n: usize) -> Sums
 }
 
 // The stations' numbers, and the head's number of points.
-#[tactic(auto, using(crate::proofs::Tests::plan_bad, crate::proofs::Tests::points_differ, crate::proofs::Tests::shares_test))]
-fn plan_and_shares(m: &[u8], k: usize, at: usize, n: usize, points: usize) -> bool
-    requires { (at + station_size * n ≤ length m.now) × (n ≤ most_stations) }
-    ensures { result ≡ shares_at m.now k at n points }
+#[tactic(auto, using(crate::proofs::Heads::head_long, crate::proofs::Heads::head_room, crate::proofs::Heads::head_few, crate::proofs::Tests::plan_bad, crate::proofs::Tests::points_differ, crate::proofs::Tests::shares_test))]
+fn plan_and_shares(m: &[u8]) -> bool
+    requires { head_at m.now ≡ true }
+    ensures { result ≡ shares_at m.now (capacity_in m.now) (stations_from m.now) (stations_in m.now) (points_in m.now) }
 {
+    let k = layout::capacity_of(m);
+    let n = layout::stations_of(m);
+    let at = HEAD_SIZE + PLACE_SIZE * k;
     if !plan_ok(m, k, at, n) {
         return false;
     }
     let s = add_up(m, at, n);
-    if points != s.held {
+    if layout::points_of(m) != s.held {
         return false;
     }
     s.within(k)
@@ -202,10 +204,10 @@ fn plan_and_shares(m: &[u8], k: usize, at: usize, n: usize, points: usize) -> bo
 
 // ---- the places
 
-// Each station's places, station after station. `limits` are those of `place_limits`.
+// Each station's places, station after station.
 #[tactic(auto, using(crate::proofs::Turns::bodies_on, crate::proofs::Turns::bodies_off, crate::proofs::Turns::bodies_end, crate::proofs::Turns::sum_on))]
-fn bodies_ok(m: &[u8], at: usize, n: usize, limits: &[usize; PLACE_LIMITS]) -> bool
-    requires { (at + station_size * n ≤ length m.now) × (head_size + place_size * sum_at held_at m.now at n ≤ length m.now) × (limits.now ≡ place_limits) }
+fn bodies_ok(m: &[u8], at: usize, n: usize, limits: &PlaceLimits) -> bool
+    requires { (at + station_size * n ≤ length m.now) × (head_size + place_size * sum_at held_at m.now at n ≤ length m.now) }
     ensures { result ≡ bodies_at m.now head_size at n }
 {
     let mut place = HEAD_SIZE;
@@ -213,7 +215,7 @@ fn bodies_ok(m: &[u8], at: usize, n: usize, limits: &[usize; PLACE_LIMITS]) -> b
         let station = at + STATION_SIZE * i;
         let ca = layout::ca_at(m, station);
         let h = layout::held_at(m, station);
-        if !model::places_ok(m, place, ca, h, limits) {
+        if !limits.places_ok(m, place, ca, h) {
             return false;
         }
         place += PLACE_SIZE * h;
@@ -221,14 +223,21 @@ fn bodies_ok(m: &[u8], at: usize, n: usize, limits: &[usize; PLACE_LIMITS]) -> b
     true
 }
 
-// The places of n stations and the unused places after them.
-#[tactic(auto, using(crate::proofs::Whole::bodies_bad, crate::proofs::Whole::unused_test))]
-fn places_and_unused(m: &[u8], k: usize, n: usize, points: usize) -> bool
-    requires { (after_places k + station_size * n ≤ length m.now) × (points ≤ k) × (points ≡ sum_at held_at m.now (after_places k) n) }
-    ensures { result ≡ places_at m.now k n points }
+// The places of the stations and the unused places after them.
+#[tactic(auto, using(crate::proofs::Heads::head_long, crate::proofs::Heads::head_room, crate::proofs::Whole::points_are, crate::proofs::Whole::points_few, crate::proofs::Whole::bodies_bad, crate::proofs::Whole::unused_test))]
+fn places_and_unused(m: &[u8]) -> bool
+    requires { (head_at m.now ≡ true) × (shares_at m.now (capacity_in m.now) (stations_from m.now) (stations_in m.now) (points_in m.now) ≡ true) }
+    ensures { result ≡ places_at m.now (capacity_in m.now) (stations_in m.now) (points_in m.now) }
 {
-    let limits = model::place_limits();
-    if !bodies_ok(m, HEAD_SIZE + PLACE_SIZE * k, n, &limits) {
+    let k = layout::capacity_of(m);
+    let points = layout::points_of(m);
+    let limits = PlaceLimits::new();
+    if !bodies_ok(
+        m,
+        HEAD_SIZE + PLACE_SIZE * k,
+        layout::stations_of(m),
+        &limits,
+    ) {
         return false;
     }
     octets::all_zero(
@@ -239,18 +248,15 @@ fn places_and_unused(m: &[u8], k: usize, n: usize, points: usize) -> bool
 }
 
 // Does the memory hold a well-formed table?
-#[tactic(auto, using(crate::proofs::Heads::head_long, crate::proofs::Heads::head_room, crate::proofs::Heads::head_few, crate::proofs::Whole::points_are, crate::proofs::Whole::points_few, crate::proofs::Whole::head_bad, crate::proofs::Whole::shares_bad, crate::proofs::Whole::places_test))]
+#[tactic(auto, using(crate::proofs::Whole::head_bad, crate::proofs::Whole::shares_bad, crate::proofs::Whole::places_test))]
 pub fn well_formed(m: &[u8]) -> bool
     ensures { result ≡ well_formed m.now }
 {
     if !head_ok(m) {
         return false;
     }
-    let k = layout::capacity_of(m);
-    let n = layout::stations_of(m);
-    let points = layout::points_of(m);
-    if !plan_and_shares(m, k, HEAD_SIZE + PLACE_SIZE * k, n, points) {
+    if !plan_and_shares(m) {
         return false;
     }
-    places_and_unused(m, k, n, points)
+    places_and_unused(m)
 }

@@ -9,6 +9,6 @@ use Rattle.batch_room.proofs.turns.Given as goal
 
 abbrev pub invariant-loop-i : goal.invariant-loop-i
 invariant-loop-i l =
-    (room_run l.m l.initial.taken l.free l.unmet 0 (requests_in l.records) ≡ room_run l.m l.taken l.free_now l.unmet_now l.i (requests_at l.records (24 * l.i) (l.n - l.i)))
-    × (taken_run l.m l.initial.taken l.free l.unmet (requests_in l.records) ≡ taken_run l.m l.taken l.free_now l.unmet_now (requests_at l.records (24 * l.i) (l.n - l.i)))
-    × (24 * l.n ≤ length l.records)
+    (room_run l.m l.initial.taken l.fn.first 0 (requests_in l.records) ≡ room_run l.m l.taken l.now l.i-counter (requests_at l.records (24 * l.i-counter) (l.i-end - l.i-counter)))
+    × (taken_run l.m l.initial.taken l.fn.first (requests_in l.records) ≡ taken_run l.m l.taken l.now (requests_at l.records (24 * l.i-counter) (l.i-end - l.i-counter)))
+    × (24 * l.i-end ≤ length l.records)

@@ -13,5 +13,5 @@ use Rattle.batch_tests.proofs.tests_of.Given as goal
 
 abbrev pub invariant-loop-i : goal.invariant-loop-i
 invariant-loop-i l =
-    (own_tests (table_of l.m) [] 0 (requests_in l.records) ≡ own_tests (table_of l.m) (earlier_at l.records l.i) l.i (requests_at l.records (24 * l.i) (l.n - l.i)))
-    × Marked l.flags l.records l.i × (length l.flags ≡ 16384) × (24 * l.n ≤ length l.records)
+    (own_tests (table_of l.m) [] 0 (requests_in l.records) ≡ own_tests (table_of l.m) (earlier_at l.records l.i-counter) l.i-counter (requests_at l.records (24 * l.i-counter) (l.n - l.i-counter)))
+    × Marked l.flags l.records l.i-counter × (24 * l.n ≤ length l.records)

@@ -1,14 +1,6 @@
 use native.Mathlib.Omega.{arith}
-use Rattle.read_data.proofs.Writing.{next_fits, next_in, all_in}
+use Rattle.read_data.proofs.Writing.{next_in, all_in}
 use Rattle.read_data.proofs.put_requested.Goals as goal
-
-pub put_found-o-requires : goal.put_found-o-requires
-put_found-o-requires c =
-    let a = c.args in
-    let l = c.loop-i in
-    let i = c.number_at-ioa.ensures.0 in
-    let f = next_fits a.m.now a.first a.h a.command.ca a.asdu.now a.out.now _ l.out 6 a.command.count l.i a.from l.o l.invariant c.requires.fits (omega arith) in
-    (omega arith, rw i f)
 
 pub loop-i-preserved : goal.loop-i-preserved
 loop-i-preserved c =

@@ -37,12 +37,6 @@ returns-then-is_skipped c =
     let s : is_silent a.command a.asdu.now ≡ true = silent_some a.command a.asdu.now n ∙ sym c.is_skipped.ensures ∙ c.if-is_skipped.true in
     (ends_refused (system_said c.args.clock.now c.args.asdu.now) (lent c.args.table.now c.args.clock.now c.args.answer.now []) c.requires.0 (Err Silent) (silent_in (goal.at.returns-then-is_skipped c).Start s) refl)
 
-pub dispatch_rtu_system_handler-requires : goal.dispatch_rtu_system_handler-requires
-dispatch_rtu_system_handler-requires c =
-    let a = c.args in
-    let n = has_first a.command a.asdu.now (sym (ap is_some c.first_object.ensures) ∙ c.is_none.ensures ∙ ap not c.if-is_none.false) in
-    (c.requires.0, c.requires.1, n)
-
 pub returns : goal.returns
 returns c =
     let a = c.args in

@@ -1,50 +1,24 @@
 -- No station, an address missing, or every address known. Assumes nothing.
-use Rattle.std.specs.Prelude.{Some}
 use mathlib.Core.Path.{◌≡◌, sym, ap, ◌∙◌}
-use Prim.Native.Nat.{ℕ, ◌+◌, ◌*◌, ◌≤◌}
+use Prim.Native.Nat.{ℕ}
 use lib.ListN.{length}
-use Rattle.octets.specs.Number.{Octets}
-use Rattle.table.proofs.Parse.{passed}
-use Rattle.lookup.specs.Seats.{seat_at}
 use Rattle.asdu.specs.Command.{object_at}
 use Rattle.answers.specs.Said.{size}
-use Rattle.read_data.proofs.Entry.{Requested, read_bounds, requested_law, missing_address_law, unplanned_read_law}
+use Rattle.read_data.proofs.Entry.{Requested, requested_law, missing_address_law, unplanned_read_law}
 use Rattle.system_command_handler.proofs.Laws.{read_denied, read_short, read_written}
 use native.Mathlib.Omega.{arith}
 use Rattle.system_command_handler.proofs.handle_read.Goals as goal
-use Rattle.system_command_handler.proofs.handle_read.Goals.{In-Some, In-Some-read_octets, Start}
+use Rattle.system_command_handler.proofs.handle_read.Goals.{In-Some-read_octets, Start}
 
 -- the objects are whole
 whole_in : (s : Start) → length s.args.asdu.now ≡ object_at s.args.command.element s.args.command.count
 whole_in s = s.requires.4 ∙ ap (λ (e : ℕ). object_at e s.args.command.count) (sym s.requires.3)
 
--- the seat that was found, in a table of octets
-octets_in : (c : In-Some) → Octets c.args.table.now
-octets_in c = λ k. omega (arith, c.shared_slice_known-1.given k)
-
-seat_in : (c : In-Some) →
-    seat_at c.args.table.now c.args.command.ca ≡ Some c.in-Some.seat
-seat_in c = sym c.seat_at.ensures ∙ c.in-Some.is
-
-bounds_in : (c : In-Some) →
-    c.in-Some.seat.first + 48 * c.in-Some.seat.held ≤ length c.args.table.now
-bounds_in c =
-    read_bounds c.args.table.now _ _ _ (octets_in c) c.requires.0 c.args.command (seat_in c)
-
 -- every address is known
 all_known : (c : In-Some-read_octets) →
     Requested c.args.table.now c.in-Some.seat.first c.in-Some.seat.held c.args.command c.args.asdu.now c.in-Some-read_octets.octets
 all_known c =
-    requested_law c.args.table.now _ _ _ (λ k. omega (arith, c.shared_slice_known-1.given k)) c.requires.0 c.args.command (sym c.seat_at.ensures ∙ c.in-Some.is) c.args.asdu.now _ (sym c.in-Some-read_octets.is ∙ c.read_octets.ensures)
-
-pub seat_at-requires : goal.seat_at-requires
-seat_at-requires c =
-    let p = (passed c.args.table.now c.requires.0).top in
-    (p.s_high, p.room)
-
-pub echo-requires : goal.echo-requires
-echo-requires c =
-    whole_in (goal.at.echo-requires c).Start
+    requested_law c.args.table.now _ (λ k. omega (arith, c.shared_slice_known-1.given k)) c.requires.0 c.args.command (sym c.seat_at.ensures ∙ c.in-Some.is) c.args.asdu.now _ (sym c.in-Some-read_octets.is ∙ c.read_octets.ensures)
 
 pub returns-in_default : goal.returns-in_default
 returns-in_default c =
@@ -52,19 +26,11 @@ returns-in_default c =
     let none-there = unplanned_read_law a.table.now a.command a.asdu.now (sym c.seat_at.ensures ∙ c.in_default.is) c.requires.1 in
     read_denied a.command a.asdu.now a.answer.now _ none-there _ _ c.echo.ensures
 
-pub read_octets-requires : goal.read_octets-requires
-read_octets-requires c =
-    (bounds_in (goal.at.read_octets-requires c).In-Some, omega (arith, c.requires.4), c.requires.2)
-
-pub echo-requires-in_default-read_octets : goal.echo-requires-in_default-read_octets
-echo-requires-in_default-read_octets c =
-    whole_in (goal.at.echo-requires-in_default-read_octets c).Start
-
 pub returns-in_default-read_octets : goal.returns-in_default-read_octets
 returns-in_default-read_octets c =
     let a = c.args in
     let missing =
-    missing_address_law a.table.now _ _ _ (octets_in (goal.at.returns-in_default-read_octets c).In-Some) c.requires.0 a.command (seat_in (goal.at.returns-in_default-read_octets c).In-Some) a.asdu.now
+    missing_address_law a.table.now _ (λ k. omega (arith, c.shared_slice_known-1.given k)) c.requires.0 a.command (sym c.seat_at.ensures ∙ c.in-Some.is) a.asdu.now
     (sym c.in_default-read_octets.is ∙ c.read_octets.ensures) in
     read_denied a.command a.asdu.now a.answer.now _ missing _ _ c.echo-in_default-read_octets.ensures
 
@@ -78,16 +44,12 @@ returns-then-answer-before-2 c =
     let a = c.args in
     (read_short a.table.now _ _ a.command a.asdu.now a.answer.now _ (all_known (goal.at.returns-then-answer-before-2 c).In-Some-read_octets) (whole_in (goal.at.returns-then-answer-before-2 c).Start) (omega arith))
 
-pub put_echo-requires : goal.put_echo-requires
-put_echo-requires c =
-    (omega arith, whole_in (goal.at.put_echo-requires c).Start, omega arith)
-
-pub put_requested-requires : goal.put_requested-requires
-put_requested-requires c =
-    let z = all_known (goal.at.put_requested-requires c).In-Some-read_octets in
+pub put_requested-requires-clause-fits : goal.put_requested-requires-clause-fits
+put_requested-requires-clause-fits c =
+    let z = all_known (goal.at.put_requested-requires-clause-fits c).In-Some-read_octets in
     let n = z.is_octets in
     let l = ap size z.is_data in
-    record { inside = (bounds_in (goal.at.put_requested-requires c).In-Some, omega (arith, c.requires.4)); fits = omega arith }
+    omega arith
 
 pub returns : goal.returns
 returns c =

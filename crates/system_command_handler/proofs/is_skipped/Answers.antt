@@ -1,6 +1,6 @@
 -- Each way to be passed over. Assumes nothing.
 use mathlib.Core.Path.{◌≡◌, sym, ap, ◌∙◌}
-use mathlib.Core.Bool.{true, false, Bool, ◌||◌, not}
+use mathlib.Core.Bool.{true, Bool, ◌||◌, not}
 use Prim.Native.Nat.{◌≤◌, ℕ}
 use lib.ListN.{length, get_or, get_or-eq_default}
 use borrow.Author.Tests.{eq-eqb, ne_eqb}
@@ -14,11 +14,6 @@ use Rattle.system_command_handler.proofs.is_skipped.Goals.{Start}
 -- a cause that is taken or not
 abbrev skipped : Start → Bool → Bool
 skipped s taken = not taken || (eqb s.args.command.kind interrogation_type & eqb (qualifier_of s.args.asdu.now) 0)
-
-pub returns-then-not-is_system_command_cot : goal.returns-then-not-is_system_command_cot
-returns-then-not-is_system_command_cot c =
-    let e : cause_taken c.args.command.kind c.args.command.cause ≡ false = sym c.is_system_command_cot.ensures ∙ c.if-not-is_system_command_cot.true in
-    sym (ap (skipped (goal.at.returns-then-not-is_system_command_cot c).Start) e)
 
 pub returns-then-command-ne-C_IC_NA_1 : goal.returns-then-command-ne-C_IC_NA_1
 unfolding ◌&◌

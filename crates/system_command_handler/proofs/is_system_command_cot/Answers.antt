@@ -4,10 +4,6 @@ use borrow.Author.Tests.{eq-eqb, ne_eqb}
 use Rattle.limits.specs.Test.{◌&◌}
 use Rattle.system_command_handler.proofs.is_system_command_cot.Goals as goal
 
-pub returns-then-cause-eq-ACTIVATION : goal.returns-then-cause-eq-ACTIVATION
-returns-then-cause-eq-ACTIVATION c =
-    sym (simp (eq-eqb _ _ c.if-cause-eq-ACTIVATION.true))
-
 pub returns-then-kind-eq-C_IC_NA_1 : goal.returns-then-kind-eq-C_IC_NA_1
 unfolding ◌&◌
 returns-then-kind-eq-C_IC_NA_1 c =

@@ -30,9 +30,6 @@ returns-then-not-well_formed c =
     let w : well_formed c.args.table.now ≡ false = sym c.well_formed-2.ensures ∙ c.if-not-well_formed.true in
     (ends_no_table (system_said c.args.clock.now c.args.asdu.now) (lent c.args.table.now c.args.clock.now c.args.answer.now []) w)
 
-pub limit_of-limit-requires : goal.limit_of-limit-requires
-limit_of-limit-requires c = there (goal.at.limit_of-limit-requires c).Else-not-well_formed
-
 pub returns-in_err-command : goal.returns-in_err-command
 returns-in_err-command c =
     let p = goal.at.returns-in_err-command c in
@@ -41,7 +38,3 @@ returns-in_err-command c =
     rw (r.1, r.2)
     (ends_refused (system_said c.args.clock.now c.args.asdu.now) (lent c.args.table.now c.args.clock.now c.args.answer.now []) (there p.Else-not-well_formed) (Err (refusal_of _))
     (unread_says c.args.clock.now c.args.asdu.now (table_of c.args.table.now) _ e) refl)
-
-pub handle_ingress_asdu-requires : goal.handle_ingress_asdu-requires
-handle_ingress_asdu-requires c =
-    (there (goal.at.handle_ingress_asdu-requires c).Else-not-well_formed, sym (is_read (goal.at.handle_ingress_asdu-requires c).After-parse) ∙ c.in_ok-command.was)

@@ -1,13 +1,7 @@
 use native.Mathlib.Omega.{arith}
 use Rattle.octets.specs.Number.{Octets}
-use Rattle.updates.proofs.Turns.{going_room, going_on, going_end}
+use Rattle.updates.proofs.Turns.{going_on, going_end}
 use Rattle.updates.proofs.apply_model_updates.Goals as goal
-
-pub apply_one-o-requires : goal.apply_one-o-requires
-apply_one-o-requires c =
-    let a = c.args in
-    let l = c.loop-i in
-    ((l.invariant.formed, omega arith), going_room a.m.now a.updates.now a.n a.out.now l.m l.out l.o l.i l.invariant (omega arith) c.requires.2)
 
 pub loop-i-preserved : goal.loop-i-preserved
 loop-i-preserved c =
