@@ -1,5 +1,5 @@
 // Memory that a script sets and lends to the calls, and a checksum over it.
-ghost use Rattle.std.specs.Prelude.{◌≡◌, ◌<◌, take};
+ghost use Rattle.std.specs.Prelude.{◌≡◌, ◌<◌, ◌≤◌, [], ◌++◌, length, take, drop};
 
 use crate::reading::Script;
 
@@ -10,7 +10,9 @@ const MODULUS: u64 = 4294967291;
 
 // A polynomial over the octets, on from the checksum of what came before; each octet counts one more than it is, so
 // that zeros count too.
-pub fn checksum(before: u64, memory: &[u8]) -> u64 {
+pub fn checksum(before: u64, memory: &[u8]) -> u64
+    ensures { result < 4294967291 }
+{
     let mut sum = before % MODULUS;
     for octet in memory {
         sum = (sum * MULTIPLIER + u64::from(*octet) + 1) % MODULUS;
@@ -19,7 +21,9 @@ pub fn checksum(before: u64, memory: &[u8]) -> u64 {
 }
 
 // Copies to the start of a memory what fits of another.
-pub fn copy_in(from: &[u8], to: &mut [u8]) {
+pub fn copy_in(from: &[u8], to: &mut [u8])
+    ensures { to.new ≡ take (length to.old) from.now ++ drop (length from.now) to.old }
+{
     let count = from.len().min(to.len());
     to[..count].copy_from_slice(&from[..count]);
 }
@@ -33,7 +37,10 @@ pub fn numbers_in(from: &[u8], to: &mut [u16]) {
 }
 
 // The first so many octets, or none where there are fewer.
-pub fn first(memory: &[u8], count: usize) -> &[u8] {
+pub fn first(memory: &[u8], count: usize) -> &[u8]
+    ensures whole { count ≤ length memory.now → result.now ≡ take count memory.now }
+    ensures none { length memory.now < count → result.now ≡ [] }
+{
     memory.get(..count).unwrap_or(&[])
 }
 

@@ -1,5 +1,5 @@
 // Reading a script from its start on. Past its end every octet is 0.
-ghost use Rattle.std.specs.Prelude.{◌≡◌, take, drop, slice_get, slice_index_or};
+ghost use Rattle.std.specs.Prelude.{◌≡◌, ◌+◌, ◌*◌, ◌<◌, ◌≤◌, [], length, take, drop, slice_get, slice_index_or};
 
 // What is left to read of a script.
 #[derive(Drop)]
@@ -33,6 +33,7 @@ impl<'a> Script<'a> {
 
     // Reads a number in two octets, low octet first.
     pub fn two(&mut self) -> u16
+        ensures value { result ≡ slice_index_or self.old.left.now 0 0 + 256 * slice_index_or self.old.left.now 1 0 }
         ensures left { self.new.left.now ≡ drop 2 self.old.left.now }
     {
         u16::from_le_bytes([self.octet(), self.octet()])
@@ -61,6 +62,8 @@ impl<'a> Script<'a> {
 
     // Reads so many octets, or all that are left and gives none where the script ends before.
     pub fn part(&mut self, count: usize) -> &'a [u8]
+        ensures whole { count ≤ length self.old.left.now → result.now ≡ take count self.old.left.now }
+        ensures none { length self.old.left.now < count → result.now ≡ [] }
         ensures left { self.new.left.now ≡ drop count self.old.left.now }
     {
         match self.left.split_off(..count) {
