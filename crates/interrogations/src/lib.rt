@@ -12,8 +12,8 @@ ghost use Rattle.answers.specs.System.{qualifier_of, interrogated, choice_of, ch
 ghost use Rattle.interrogations.specs.Interrogations.{CauseOf};
 
 use answers::Written;
-use asdu::command::Command;
 use asdu::asked::Confirmable;
+use asdu::command::Command;
 use asdu::cot;
 use limits::outcome::Refusal;
 use limits::size::{ADDRESS_OCTETS, HEADER_OCTETS};
