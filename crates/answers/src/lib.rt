@@ -19,7 +19,7 @@ impl Written {
         ensures { answered result ≡ given octets }
     {
         Ok(Written {
-            octets: octets,
+            octets,
             spontaneous: 0,
         })
     }

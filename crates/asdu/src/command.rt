@@ -46,6 +46,7 @@ impl From<Unread> for Refusal {
     }
 }
 
+// A test for each definition: one function with the class given would be no plainer.
 fn is_system(class: Option<Class>) -> bool
     ensures { result ≡ is_system class }
 {

@@ -62,7 +62,7 @@ pub fn put_confirmation(out: &mut [u8], first: Confirmable, cause: u8, negative:
     )
 }
 
-// Writes a confirmation that echoes all objects at the front of `out`.
+// Writes a confirmation that echoes all objects at the front of `out`. It asks nothing of the objects, so it stands beside `put_confirmation`.
 pub fn put_echo(out: &mut [u8], asked: Asked, cause: u8, negative: bool) -> usize
     requires { (cause < 64) × (length asked.asdu.now ≤ length out.old) }
     ensures { Puts (asdu_octets (echo asked.entry.command asked.entry.asdu.now cause negative)) out.old result out.new }

@@ -1,4 +1,5 @@
-// Causes of transmission: IEC 60870-5-101, 7.2.3, under the names of `cot.rs`.
+// Causes of transmission: IEC 60870-5-101, 7.2.3, under the names of `cot.rs`. They stay octets: any octet comes as a cause, so an enum would need a
+// case for all the others, and be no plainer.
 
 pub const SPONTANEOUS_DATA: u8 = 3;
 

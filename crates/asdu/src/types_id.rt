@@ -1,4 +1,5 @@
-// Type identifications that the rules name one by one: IEC 60870-5-101, 7.2.1, under the names of `types_id.rs`. The counters' stand in `model`.
+// Type identifications that the rules name one by one: IEC 60870-5-101, 7.2.1, under the names of `types_id.rs`. The counters' stand in `model`. They stay
+// octets: any octet comes as a type, so an enum would need a case for all the others, and be no plainer.
 
 pub const M_EI_NA_1: u8 = 70;
 

@@ -56,6 +56,7 @@ pub fn register_points(table: &mut [u8], records: &[u8]) -> Result<(), Fault>
             place: 0,
         });
     }
+    // No heap: arrays for the most that a table can have.
     let mut numbers = [0u64; MOST_PLACES];
     let apart = merging::order(records, &mut numbers);
     batch_tests::own_tests(table, records, apart)?;

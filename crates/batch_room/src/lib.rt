@@ -82,10 +82,7 @@ fn turns(
     let mut now = first;
     for i in 0..records.len() / RECORD_OCTETS {
         let ca = octets::number_at::<2>(records, RECORD_OCTETS * i);
-        now = turn(m, taken, ca, now).map_err(|refusal| Fault {
-            refusal: refusal,
-            place: i,
-        })?;
+        now = turn(m, taken, ca, now).map_err(|refusal| Fault { refusal, place: i })?;
     }
     Ok(())
 }

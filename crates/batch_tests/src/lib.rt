@@ -86,10 +86,7 @@ fn tests_of(m: &[u8], records: &[u8], flags: &mut [bool; FLAGS], apart: bool) ->
     let n = records.len() / RECORD_OCTETS;
     for i in 0..n {
         let k = flag_at(records, RECORD_OCTETS * i);
-        fault_at(m, records, i, !apart && flags[k]).map_err(|refusal| Fault {
-            refusal: refusal,
-            place: i,
-        })?;
+        fault_at(m, records, i, !apart && flags[k]).map_err(|refusal| Fault { refusal, place: i })?;
         flags[k] = true;
     }
     Ok(())
@@ -100,6 +97,7 @@ pub fn own_tests(m: &[u8], records: &[u8], apart: bool) -> Result<(), Fault>
     requires { (well_formed m.now ≡ true) × (apart ≡ true → Differ records.now (records_in records.now)) }
     ensures { placed result ≡ own_tests (table_of m.now) [] 0 (requests_in records.now) }
 {
+    // No heap: flags in a fixed memory say which addresses can stand before, where a set would say which do.
     let mut flags = [false; FLAGS];
     tests_of(m, records, &mut flags, apart)
 }

@@ -8,7 +8,8 @@ ghost use Rattle.clock.specs.Clock.{clock_of, fresh_clock, with_flag, Answers};
 use answers::Written;
 use limits::outcome::Refusal;
 
-// The last master clock: seven octets of time, and whether one was received.
+// The last master clock: seven octets of time, and whether one was received. The contract of `system_command` fixes the octets of a clock that is not
+// known too, so it is no Option.
 #[derive(Clone, Copy)]
 pub struct Clock {
     pub octets: [u8; 7],
@@ -60,7 +61,7 @@ pub fn answer_command(table: &mut [u8], clock: Clock, asdu: &[u8], answer: &mut 
     let mut flat = octets_of(clock.octets, clock.known);
     let answered = system_command_handler::system_command(table, &mut flat, asdu, answer);
     Told {
-        answered: answered,
+        answered,
         clock: clock_of(flat),
     }
 }

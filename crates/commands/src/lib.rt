@@ -122,7 +122,7 @@ fn handle_process_command(
     updates::apply_model_updates(table, updates, n, spontaneous);
     let octets = send_command_confirmation(answer, command, negative, reply_type, reply);
     Ok(Written {
-        octets: octets,
+        octets,
         spontaneous: told,
     })
 }

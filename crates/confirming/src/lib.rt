@@ -68,8 +68,8 @@ pub fn report(
     let reach = output::reach::reach_of(table, command.ca);
     let before = HEADER_OCTETS + ADDRESS_OCTETS + command.element;
     let terms = Terms {
-        limit: limit,
-        cause: cause,
+        limit,
+        cause,
         ca: command.ca,
     };
     let Some(octets) = output::data::put_data(

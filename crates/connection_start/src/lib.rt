@@ -24,7 +24,8 @@ const OBJECT_OCTETS: usize = ADDRESS_OCTETS + 1;
 // The octets of the end of initialisation.
 const END_OF_INITIALIZATION_OCTETS: usize = HEADER_OCTETS + OBJECT_OCTETS;
 
-// The common address of the first of the n stations from `at` that holds a point, or 0: the smallest, since the stations stand in ascending order.
+// The common address of the first of the n stations from `at` that holds a point, or 0: the smallest, since the stations stand in ascending order. Document 01 has 0
+// sent where no station holds a point, so it is no Option.
 #[tactic(auto, using(crate::proofs::Laws::address_here, crate::proofs::Laws::address_on, crate::proofs::Laws::address_end))]
 fn station_common_address(m: &[u8], at: usize, n: usize) -> usize
     requires { at + station_size * n ≤ length m.now }

@@ -26,7 +26,7 @@ pub fn system_command(table: &mut [u8], before: Clock, asdu: &[u8], answer: &mut
     let mut kept = before;
     let answered = clock::system_command(table, &mut kept, asdu, answer);
     Told {
-        answered: answered,
+        answered,
         clock: kept,
     }
 }

@@ -54,7 +54,7 @@ fn choice_of(qualifier: u8) -> u8
     qualifier % 64
 }
 
-// They choose: 5 all counters, 1 to 4 a group.
+// They choose: 5 all counters, 1 to 4 a group. One function for this and `interrogated` would take three numbers and the case, and be no plainer.
 fn chosen(qualifier: u8) -> Option<Selection>
     ensures { result ≡ chosen qualifier }
 {

@@ -44,7 +44,7 @@ pub struct Share {
 
 // ---- answers in plain numbers
 
-// A number in 32 bits.
+// A number in 32 bits: C gets the low ones, as `narrowed` says, where `try_from` would refuse.
 fn narrow(n: usize) -> u32
     ensures { result ≡ narrowed n }
 {
@@ -191,7 +191,7 @@ pub fn khuvelter_system_command(
     answer_reply(system_command_handler::system_command(table, clock, asdu, answer))
 }
 
-// A process command with the caller's proposal; `negative` is 0 for no, anything else for yes.
+// A process command with the caller's proposal; `negative` is 0 for no, anything else for yes: an octet, since the C interface has it so.
 pub fn khuvelter_process_command(
     table: &mut [u8],
     asdu: &[u8],

@@ -1,5 +1,6 @@
 // The layout of a table's memory: a head, K places, the stations; the size of each, and where their numbers lie. Nothing else in the repository
-// knows these numbers.
+// knows these numbers. A table is one memory that its caller lends, and there is no heap: a place or a station is told by its offset, n of them in a row
+// by offset and number.
 #![tactic(auto)]
 
 ghost use Rattle.std.specs.Prelude.{◌≡◌, ◌+◌, ◌*◌, ◌≤◌, ◌<◌, length};

@@ -32,7 +32,7 @@ fn seat_from(m: &[u8], ca: usize, at: usize, n: usize) -> Option<Seat>
             return Some(Seat {
                 index: i,
                 first: place,
-                held: held,
+                held,
             });
         }
         place += PLACE_SIZE * held;
@@ -53,7 +53,8 @@ pub fn seat_at(m: &[u8], ca: usize) -> Option<Seat>
 
 // ---- a point of a station
 
-// How many of the n places from `first` have an IOA below `ioa`, by halving.
+// How many of the n places from `first` have an IOA below `ioa`, by halving. The loop counts no index. The contract of `find` speaks of any octets, and
+// the library's `partition_point` only of sorted ones.
 #[tactic(auto, using(crate::proofs::Walk::halve_up, crate::proofs::Walk::halve_down, crate::proofs::Walk::halve_end), unfolding(crate::specs::Find::ioa_at))]
 fn seek(m: &[u8], first: usize, n: usize, ioa: usize) -> usize
     requires { first + place_size * n ≤ length m.now }

@@ -10,7 +10,7 @@ pub use place::{place_of, put_place};
 pub use places::PlaceLimits;
 pub use registration::{is_counter, own_fault, point_of, request_at};
 
-// The two types of counters: integrated totals, without and with a time tag.
+// The two types of counters: integrated totals, without and with a time tag. They stay octets, as the types in `asdu` do.
 pub const M_IT_NA_1: u8 = 15;
 
 pub const M_IT_TB_1: u8 = 37;

@@ -87,7 +87,7 @@ impl PlaceLimits {
         }
         numbers[TOTALS] = COUNTER_LIMIT;
         numbers[TIMED_TOTALS] = COUNTER_LIMIT;
-        PlaceLimits { numbers: numbers }
+        PlaceLimits { numbers }
     }
 
     // What the first eight octets of a value of the type, as a number, are at most.

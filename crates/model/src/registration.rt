@@ -8,7 +8,7 @@ use crate::{COUNTER_GROUPS, GROUPS, HIGHEST_IOA, M_IT_NA_1, M_IT_TB_1, Point, Re
 use layout::VALUE_SIZE;
 use limits::outcome::Refusal;
 
-// A record's group: the first octet says whether there is one.
+// A record's group: the first octet says whether there is one, since the C interface has it so.
 fn given_group(has: u8, group: u8) -> Option<u8>
     ensures { result ≡ given_group has group }
 {
@@ -27,12 +27,12 @@ pub fn request_at(records: &[u8], at: usize) -> Request
     let counter = given_group(records[at + 9], records[at + 10]);
     let value = octets::twelve_at(records, at + 12);
     Request {
-        ca: ca,
-        ioa: ioa,
-        kind: kind,
-        group: group,
-        counter: counter,
-        value: value,
+        ca,
+        ioa,
+        kind,
+        group,
+        counter,
+        value,
     }
 }
 
@@ -113,6 +113,6 @@ pub fn point_of(q: Request) -> Point
         ioa: q.ioa,
         group: u16::from(group.unwrap_or(0)),
         counter: counter.unwrap_or(0),
-        value: value,
+        value,
     }
 }

@@ -63,7 +63,8 @@ impl Planned {
     }
 }
 
-// Are the numbers of all stations valid, CA strictly ascending?
+// Are the numbers of all stations valid, CA strictly ascending? `wellformed` walks over octets, this over numbers; one walk over both would take a trait
+// with its laws, and be no plainer.
 #[tactic(auto, using(crate::proofs::Plan::plan_on, crate::proofs::Plan::plan_off, crate::proofs::Plan::plan_end))]
 fn stations_ok(plan: &[u16], k: usize) -> bool
     ensures { result ≡ plan_ok k 1 (planned plan.now) }

@@ -47,6 +47,7 @@ pub fn put_data(
     requires { (before ≤ 65536) × (after ≤ 65536) × PlacesIn m.now reach × TypesOk types.now × TermsOk terms }
     ensures { Writes before after (wire (data_of terms types.now s m.now reach)) out.old result out.new }
 {
+    // No heap: links are the places' numbers, in arrays of a fixed size.
     let mut heads: [u16; SLOTS] = [0; SLOTS];
     let mut next: [u16; MOST_PLACES] = [0; MOST_PLACES];
     let mut counts: [u16; SLOTS] = [0; SLOTS];

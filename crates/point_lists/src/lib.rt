@@ -47,10 +47,7 @@ fn later_tests(m: &[u8], points: &[Request]) -> Result<(), Fault>
     }
     for i in DECIDING..points.len() {
         if let Err(refusal) = fault_of(m, points[i], &points[..i]) {
-            return Err(Fault {
-                refusal: refusal,
-                place: i,
-            });
+            return Err(Fault { refusal, place: i });
         }
     }
     Ok(())

@@ -27,7 +27,7 @@ fn found_octets(m: &[u8], first: usize, h: usize, ioa: usize) -> Option<usize>
 }
 
 // The octets of the requested ASDUs of a command's objects, repeats included, from the h places from `first`; none if an object has an address that no
-// point has.
+// point has. They are added up before any is written, since a refusal writes nothing.
 #[tactic(auto, using(crate::proofs::Turns::asked_small, crate::proofs::Turns::asked_on, crate::proofs::Turns::asked_missing, crate::proofs::Turns::asked_end))]
 pub fn read_octets(m: &[u8], first: usize, h: usize, asked: Asked) -> Option<usize>
     requires { first + place_size * h ≤ length m.now }

@@ -14,7 +14,7 @@ use std::io::Write;
 // Octets of three records.
 const THREE_RECORDS: usize = 3 * RECORD;
 
-// A number in 32 bits, as the C interface gives it.
+// A number in 32 bits, as the C interface gives it; written once more, since a program compares with the library here.
 fn narrow(n: usize) -> u32 {
     (n % 4294967296) as u32
 }

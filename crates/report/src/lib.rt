@@ -16,7 +16,7 @@ pub enum Selection {
     CounterGroup(u8),
 }
 
-// The n places from `base`: every station's, or one station's own.
+// The n places from `base`: every station's, or one station's own. An enum of the two would have base and n in both cases, and be no plainer.
 #[derive(Clone, Copy)]
 pub struct Reach {
     pub base: usize,
