@@ -32,7 +32,7 @@ holding_with (s ∷ ss) taken i =
 abbrev pub TookIn : Table → List Request → List ℕ → Type 0
 TookIn t qs taken = (room_tests t 0 qs).outcome ≡ done → map holding_of (room_tests t 0 qs).after.stations ≡ holding_with t.stations taken 0
 
--- ---- as the code runs: nobody need believe what follows, `room_law` ties it to `room_reply`
+-- ---- as the code runs: nobody need believe what follows, `room_fresh` ties it to `room_reply`
 
 -- the share of the station whose octets lie from `at`, with `taken` points more than they say
 unfoldable pub share_with : List ℕ → ℕ → ℕ → Share
