@@ -6,12 +6,15 @@ ghost use Rattle.octets.specs.Over.{over, shifted, lowered};
 ghost use Rattle.octets.specs.Number.{twelve, zeros, number_of, octets_of, power};
 
 // Writes all of `src` into `dst` from `at`.
-#[tactic(auto, using(crate::proofs::Laws::part_over))]
+#[tactic(auto, using(crate::proofs::Laws::copy_step, crate::proofs::Laws::copy_done))]
 pub fn copy_in(src: &[u8], dst: &mut [u8], at: usize)
     requires { at + length src.now ≤ length dst.old }
     ensures { dst.new ≡ over dst.old at src.now }
 {
-    dst[at..at + src.len()].copy_from_slice(src);
+    // Octet by octet: of `copy_from_slice` LLVM makes a call of memmove, which the C interface's header does not ask of its users.
+    for i in 0..src.len() {
+        dst[at + i] = src[i];
+    }
 }
 
 // Moves the octets from `from` up to `to` up by `by`.
@@ -37,7 +40,7 @@ pub fn shift_down(m: &mut [u8], from: usize, to: usize, by: usize)
     requires { (from + by ≤ to) × (to ≤ length m.old) }
     ensures { m.new ≡ lowered m.old from to by }
 {
-    // Tried `copy_within`, and it misses speed: of this loop LLVM makes one call of memmove.
+    // Tried `copy_within`, and it misses speed. Of this loop LLVM makes moves of 32 octets.
     let start = from + by;
     for j in 0..to - start {
         m[from + j] = m[start + j];
