@@ -244,6 +244,11 @@ from_each f a (suc n) t k h l = go (dec_le (suc a) k) (λ m. from_each f (suc a)
     go (yes m) g = g m
     go (no m) g = let e : a ≡ k = omega arith in subst (λ (x : ℕ). f x ≡ true) e (both _ _ t).0
 
+-- Below 41 the element octets of every type are a point's.
+pub point_below : (k : ℕ) → k < 41 → element_octets k ≡ point_octets k
+unfolding element_octets point_octets octets_in named_types point_types system_types process_types end_types ◌&◌
+point_below k h = eqb-true _ _ (from_each (λ (n : ℕ). eqb (element_octets n) (point_octets n)) 0 41 refl k (omega arith) (omega arith))
+
 -- A computed test over n types from a on is the class of each, but for the type x.
 pub spans : (v x a n : ℕ) → every_from (λ k. eqb k x || eqb (class_number (class_of k)) v) a n ≡ true → (k : ℕ) → a ≤ k → k < a + n → (k ≡ x → ⊥)
     → class_at v ≡ class_of k
