@@ -39,7 +39,7 @@ fn fault_of(m: &[u8], point: Request, earlier: &[Request]) -> Result<(), Refusal
 
 // The own tests of the points after the first, which decide on room; the first that fails is named.
 #[tactic(auto, unfolding(crate::specs::Later::later_tests))]
-fn later_tests(m: &[u8], points: &[Request]) -> Result<(), Fault>
+pub fn later_tests(m: &[u8], points: &[Request]) -> Result<(), Fault>
     ensures { placed result ≡ later_tests m.now points.now }
 {
     if !wellformed::well_formed(m) {
